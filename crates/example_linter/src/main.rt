@@ -1,8 +1,8 @@
 //! A language server that marks each line with a `NOTE`: `example_linter [--stdio | ADDRESS]`, over standard input and output, or over a
 //! socket, where it serves one client after another.
 //!
-//! It keeps each text as the client edits it, a range at a time. Each edit starts an analysis of the whole text, in a thread of a pool and in
-//! the place of the analysis before. So nobody waits for an analysis, and none of an older text is shown.
+//! It keeps each text as the client edits it, a range at a time. Each edit starts an analysis of the whole text after a pause, in a thread of a
+//! pool and in the place of the analysis before. So nobody waits for an analysis, and none of an older text is shown.
 #![tactic(auto)]
 
 ghost use Rattle.serde_json.specs.View.{view};
@@ -85,15 +85,22 @@ impl Job for Analysis {
     ghost asks = { λ _ _ _. ⊥ };
 
     fn run<C: JobContext>(self, context: &mut C) -> Result<JobResult<Findings>, Interrupted> {
-        context.sleep(Duration::from_millis(PAUSE))?;
         let marks = marks_in(self.alloc, &*self.source.text, context)?;
         let source = self.source;
         Ok(JobResult::found(Findings { source, marks }))
     }
 }
 
-/// How many milliseconds an analysis sleeps before it begins.
+/// How many milliseconds an analysis waits after an edit. A further edit replaces it until then.
 const PAUSE: u64 = 50;
+
+/// How long the analysis waits that this notification starts. Only an edit may soon be followed by another.
+fn pause_after(notification: &Notification) -> Duration {
+    if notification.method.as_str() == "textDocument/didChange" {
+        return Duration::from_millis(PAUSE);
+    }
+    Duration::ZERO
+}
 
 /// A mark at each line that has a `NOTE`.
 fn marks_in<C: JobContext>(
@@ -274,18 +281,19 @@ impl Linter {
             → Follow (documents_of self.old.documents) self.new.changes.items (documents_of self.new.documents)) }
         ensures clear { OnOk result (All (Clears (documents_of self.new.documents)) (map act_seen acts.new.items)) }
     {
+        let pause = pause_after(notification);
         match self.documents.apply(notification) {
-            Some(Ok(update)) => self.look_at(update.uri, acts),
+            Some(Ok(update)) => self.look_at(update.uri, pause, acts),
             Some(Err(missed)) => match missed.or_out_of_memory()?.uri {
-                Some(uri) => self.look_at(uri, acts),
-                None => self.look_at_all(acts),
+                Some(uri) => self.look_at(uri, pause, acts),
+                None => self.look_at_all(pause, acts),
             },
             None => Ok(()),
         }
     }
 
-    /// Starts or stops the analysis of a document.
-    fn look_at(&mut self, uri: &str, acts: &mut Acts) -> Result<(), AllocError>
+    /// Starts the analysis of a document after a pause, or stops it.
+    fn look_at(&mut self, uri: &str, pause: Duration, acts: &mut Acts) -> Result<(), AllocError>
         ensures same { self.new.documents ≡ self.old.documents }
         ensures change { OnOk result ((change : Command Analysis)
             × (self.new.changes.items ≡ self.old.changes.items ++ change ∷ [])
@@ -293,13 +301,13 @@ impl Linter {
         ensures clear { OnOk result (All (Clears (documents_of self.old.documents)) (map act_seen acts.old.items)
             → All (Clears (documents_of self.old.documents)) (map act_seen acts.new.items)) }
     {
-        let change = change_of(self.alloc, &self.documents, uri, acts)?;
+        let change = change_of(self.alloc, &self.documents, uri, pause, acts)?;
         self.changes.push(change)?;
         Ok(())
     }
 
     /// Does the same for each open document.
-    fn look_at_all(&mut self, acts: &mut Acts) -> Result<(), AllocError>
+    fn look_at_all(&mut self, pause: Duration, acts: &mut Acts) -> Result<(), AllocError>
         ensures same { self.new.documents ≡ self.old.documents }
         ensures changes { OnOk result (self.old.changes.items ≡ []
             → AreChangesOf (documents_of self.old.documents) self.new.changes.items) }
@@ -307,19 +315,20 @@ impl Linter {
             → All (Clears (documents_of self.old.documents)) (map act_seen acts.new.items)) }
     {
         for (uri, _) in self.documents.iter() {
-            let change = change_of(self.alloc, &self.documents, uri.as_str(), acts)?;
+            let change = change_of(self.alloc, &self.documents, uri.as_str(), pause, acts)?;
             self.changes.push(change)?;
         }
         Ok(())
     }
 }
 
-/// Starts an analysis of a document's text in place of the one before. If the text is no longer known, the analysis is stopped, and its marks
-/// are removed.
+/// Starts an analysis of a document's text after a pause, in place of the one before. If the text is no longer known, the analysis is stopped,
+/// and its marks are removed.
 fn change_of(
     alloc: Global,
     documents: &TextDocuments,
     uri: &str,
+    pause: Duration,
     acts: &mut Acts,
 ) -> Result<Change, AllocError>
     ensures change { IfOk result (λ change. IsChangeOf (documents_of documents.now) uri.now change) }
@@ -332,7 +341,7 @@ fn change_of(
         return Ok(JobCommand::Stop(key));
     };
     let source = DocumentSnapshot::new(alloc, uri, document)?;
-    Ok(JobCommand::Start(key, Analysis { alloc, source }))
+    Ok(JobCommand::StartAfter(key, pause, Analysis { alloc, source }))
 }
 
 /// Serves a client. The session keeps the laws of a session of a server with jobs, whatever the analyses find and when. The marks that the
