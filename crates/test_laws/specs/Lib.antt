@@ -1,0 +1,4 @@
+pub mod Kept
+pub mod Owed
+pub mod Taken
+pub mod Turns
