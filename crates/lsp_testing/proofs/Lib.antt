@@ -1,0 +1,2 @@
+mod OutputRead
+mod Replies
