@@ -85,7 +85,8 @@ module _ (id : Id) (method : List ℕ) (params : Data) (outcome : Result Data Er
   answered replied is =
       let asked = request_of ToServer 1 id method params in
       subst (λ (i : Id). IsLawful (passed ToClient 2 (response i outcome)
-      ∷ passed ToServer 1 (request id method params) ∷ []) [] (with (is_success (response i outcome)) None [])) (sym is) (
+      ∷ passed ToServer 1 (request id method params) ∷ []) [] (with (is_success (response i outcome)) None []))
+      (sym is) (
         asked ∷ [],
         [],
         ([], [], (refl, refl), ((λ o xs ys e. absurd (none_is_open xs o ys e)), refl, refl)),

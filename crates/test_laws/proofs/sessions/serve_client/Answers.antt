@@ -55,4 +55,5 @@ returns-clause-waits g c = λ goes_on only.
     let is : account_of c.serve_transport.new.transport ≡ t.0 = t.1 ∙ ap (λ notes. acts_in notes ++ t.0) c.requires.2 in
     subst (λ acts. NeverBothWait goes_on [] [] acts) (sym is)
     (c.client_is_never_kept_waiting.ensures.replies _ goes_on t.0 old.handler.now new.handler.now t.2.exchanges
-    t.2.stop _ only (c.handler_service_runs_its_handler.ensures old new t.2.exchanges t.2.stop _ t.2.part.0, t.2.part.1))
+    t.2.stop _ only
+    (c.handler_service_runs_its_handler.ensures old new t.2.exchanges t.2.stop _ t.2.part.0, t.2.part.1))
