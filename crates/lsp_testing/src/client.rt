@@ -34,7 +34,7 @@ use std::mem;
 ///
 /// The contracts say: the session gets the frames of the messages that the client sends, and no other bytes. All output
 /// of the session is read, and its messages are kept in their order. A request has a new id, and its reply has this id.
-/// Which text a `TestFault` has is tested.
+/// No clause says which text a `TestFault` has.
 #[derive(Drop)]
 pub struct TestClient<S> {
     alloc: Global,
