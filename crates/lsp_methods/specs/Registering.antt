@@ -24,7 +24,8 @@ registration_params id method options = object_of ((
 
 -- what asks the client to register a method
 abbrev pub registers : {P : Type 0} → List ℕ → List ℕ → Data → P → Act P
-registers id method options payload = asks (codes "client/registerCapability") (registration_params id method options) payload
+registers id method options payload =
+    asks (codes "client/registerCapability") (registration_params id method options) payload
 
 -- the params that end one registration, in the standard's spelling
 abbrev pub unregistration_params : List ℕ → List ℕ → Data

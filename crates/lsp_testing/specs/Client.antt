@@ -2,7 +2,8 @@
 use Rattle.serde_json.specs.View.{view}
 use Rattle.serde_json.specs.declared.value.Value.{Value}
 use Rattle.std.specs.List.{AllWithin, HoldsAt, FoldsTo}
-use Rattle.std.specs.Prelude.{◌≡◌, ◌<◌, ◌⊎◌, ℕ, List, [], ◌∷◌, ◌++◌, length, take, Option, Some, None, Result, Bool, true, false}
+use Rattle.std.specs.Prelude.{◌≡◌, ◌<◌, ◌⊎◌, ℕ, List, [], ◌∷◌, ◌++◌, length, take, Option, Some, None, Result, Bool}
+use Rattle.std.specs.Prelude.{true, false}
 use Rattle.lsp_message.specs.Id.{Id, number, same_id}
 use Rattle.lsp_message.specs.Message.{Message, request}
 use Rattle.lsp_message.specs.Written.{IsFrameOf}

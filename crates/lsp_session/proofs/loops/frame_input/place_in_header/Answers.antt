@@ -11,8 +11,8 @@ use Rattle.lsp_session.proofs.loops.frame_input.place_in_header.Goals as goal
 pub returns-then-is_above-clause-fault : goal.returns-then-is_above-clause-fault
 returns-then-is_above-clause-fault c =
     let above = c.if-is_above.ensures.above refl in
-    fault_kept c.args.limits c.args.bytes.now _ (above_bound c.args.limits c.args.bytes.now c.args.line c.args.given c.requires.fields c.requires.line above.0
-    above.1 above.2)
+    fault_kept c.args.limits c.args.bytes.now _ (above_bound c.args.limits c.args.bytes.now c.args.line
+    c.args.given c.requires.fields c.requires.line above.0 above.1 above.2)
 
 pub returns-in-Err-clause-fault : goal.returns-in-Err-clause-fault
 returns-in-Err-clause-fault c =
@@ -22,7 +22,8 @@ returns-in-Err-clause-fault c =
     ∙ c.if-not-ends_with.false in
     let whole = line_ended tail ends c.requires.line in
     let is = ap header_line (sym (tail_of c.args.line text)) ∙ sym c.header_line.ensures ∙ c.in-Err.is in
-    fault_kept c.args.limits c.args.bytes.now _ (ended_fault c.args.limits text c.args.line c.args.given c.requires.fields whole (Err c.in-Err.fault) is
+    fault_kept c.args.limits c.args.bytes.now _ (ended_fault c.args.limits text c.args.line c.args.given
+    c.requires.fields whole (Err c.in-Err.fault) is
     c.in-Err.fault refl (c.if-is_above.ensures.fits (λ e. true≢false (sym e))) refl)
 
 pub returns-in-Ok-Length-clause-place : goal.returns-in-Ok-Length-clause-place
@@ -61,7 +62,8 @@ returns-in-None-clause-fault c =
     let is = ap header_line (sym (tail_of c.args.line text)) ∙ sym c.header_line.ensures ∙ c.in-Ok-Blank.is
     ∙ ap Ok c.in-Ok-Blank.field-0-is in
     let fits = c.if-is_above.ensures.fits (λ e. true≢false (sym e)) in
-    fault_kept c.args.limits c.args.bytes.now _ (blank_unsized limits text c.args.line c.args.given c.requires.fields whole is fits c.in-None.is)
+    fault_kept c.args.limits c.args.bytes.now _ (blank_unsized limits text c.args.line c.args.given
+    c.requires.fields whole is fits c.in-None.is)
 
 pub returns-in-Some-clause-fault : goal.returns-in-Some-clause-fault
 returns-in-Some-clause-fault c =
@@ -74,7 +76,8 @@ returns-in-Some-clause-fault c =
     let is = ap header_line (sym (tail_of c.args.line text)) ∙ sym c.header_line.ensures ∙ c.in-Ok-Blank.is
     ∙ ap Ok c.in-Ok-Blank.field-0-is in
     let fits = c.if-is_above.ensures.fits (λ e. true≢false (sym e)) in
-    fault_kept c.args.limits c.args.bytes.now _ (blank_long limits text c.args.line c.args.given c.requires.fields whole is fits c.in-Some.size c.in-Some.is
+    fault_kept c.args.limits c.args.bytes.now _ (blank_long limits text c.args.line c.args.given
+    c.requires.fields whole is fits c.in-Some.size c.in-Some.is
     (omega (arith, c.if-size-limits.true)))
 
 pub returns-in-Some-eq0-clause-fault : goal.returns-in-Some-eq0-clause-fault
@@ -88,7 +91,8 @@ returns-in-Some-eq0-clause-fault c =
     let is = ap header_line (sym (tail_of c.args.line text)) ∙ sym c.header_line.ensures ∙ c.in-Ok-Blank.is
     ∙ ap Ok c.in-Ok-Blank.field-0-is in
     let fits = c.if-is_above.ensures.fits (λ e. true≢false (sym e)) in
-    fault_kept c.args.limits c.args.bytes.now _ (blank_empty limits text c.args.line c.args.given c.requires.fields whole is fits
+    fault_kept c.args.limits c.args.bytes.now _ (blank_empty limits text c.args.line c.args.given
+    c.requires.fields whole is fits
     (let none : c.in-Some-eq0.field-0 ≡ 0 = cc (
       c.in-Some-eq0.field-0-is,
       c.in-Some-eq0.field-0-test,
