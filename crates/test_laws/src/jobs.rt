@@ -18,6 +18,7 @@ use std::alloc::Global;
 use std::io::{BufRead, Write};
 use std::sync::Wait;
 use std::thread::Threads;
+use std::time::Clock;
 
 /// Serves a client, up to the first content that is no message. If the reader's bytes are known, they and the bytes
 /// that were written are those of a session with jobs that keeps the laws.
@@ -30,7 +31,7 @@ pub fn serve_with_jobs<T, R, W, S, J>(
     options: JobOptions,
 ) -> (S, Result<Threaded<W>, StartFault>)
 where
-    T: Threads + Wait + Copy + Drop + Send + 'static,
+    T: Threads + Wait + Clock + Copy + Drop + Send + 'static,
     R: BufRead + Drop + Send + 'static,
     W: Write + Drop + Send + 'static,
     S: JobServer<J> + Drop,
