@@ -5,7 +5,7 @@ use Rattle.std.specs.Prelude.{IsSomeAnd}
 use Rattle.lsp_acts.specs.Law.{AnswersInitialize, GivesPayloads, GoesOn, TakesPart}
 use Rattle.lsp_acts.specs.declared.server.Server.{Ghosts as Plain}
 use Rattle.lsp_jobs.specs.JobSession.{seen_with_jobs}
-use Rattle.lsp_jobs.specs.KeyedJobLaw.{SlotHistory}
+use Rattle.lsp_jobs.specs.KeyedJobLaw.{KeyHistory}
 use Rattle.lsp_jobs.specs.PendingJobs.{no_jobs}
 use Rattle.lsp_jobs.specs.PoolView.{pending_jobs}
 use Rattle.lsp_jobs.specs.Stated.{StatedJobs}
@@ -20,7 +20,7 @@ module _ (T : Type 0) {S J F P : Type 0} (plain : Plain S P) (may : StatedJobs S
     (turns : (start last : PooledServer T S J F) (opening : Exchange) (later : List Exchange) (m : Message)
     → pending_jobs start.pool ≡ no_jobs → opening.came ≡ Some m → is_initialized m ≡ true
     → (part : TakesPart (seen_with_jobs T plain may) start last opening later)
-    → SlotHistory plain may start.server opening part.begun part.calls)
+    → KeyHistory plain may start.server opening part.begun part.calls)
     (first : (early : List Exchange) (old start : PooledServer T S J F)
     → AnswersInitialize (seen_with_jobs T plain may) old early start → pending_jobs start.pool ≡ pending_jobs old.pool)
   where

@@ -4,7 +4,7 @@ use Rattle.std.specs.Prelude.{◌≡◌, ◌⊎◌, List, [], ◌∷◌, ◌++�
 use Rattle.lsp_acts.specs.Acts.{Act}
 use Rattle.lsp_acts.specs.Law.{Call}
 use Rattle.lsp_acts.specs.declared.server.Server.{Ghosts as Plain}
-use Rattle.lsp_jobs.specs.KeyedJobLaw.{SlotHistory}
+use Rattle.lsp_jobs.specs.KeyedJobLaw.{KeyHistory}
 use Rattle.lsp_jobs.specs.Stated.{StatedJobs}
 use Rattle.lsp_jobs.specs.declared.asking.RequestOrigin.{RequestOrigin}
 use Rattle.lsp_message.specs.Methods.{is_initialized}
@@ -16,7 +16,7 @@ module _ {S J F P : Type 0} (plain : Plain S P) (may : StatedJobs S J F P) where
   abbrev pub TurnsFrom : Exchange → Type 0
   TurnsFrom opening =
       (start : S) × (begun : List (Act (RequestOrigin P))) × (calls : List (Call (RequestOrigin P)))
-      × SlotHistory plain may start opening begun calls
+      × KeyHistory plain may start opening begun calls
 
   -- from `initialized` on the server has its turns; without it nothing is sent
   abbrev pub HasTurnsFrom : List Exchange → Type 0
