@@ -9,7 +9,8 @@ use lsp_text::laws::columns_count_characters;
 use lsp_text::{Position, PositionEncoding, Text};
 use std::alloc::{AllocError, Global};
 
-/// Returns how many bytes of a line stand before a column: those of the whole characters that take no more units.
+/// Returns how many bytes of a line stand before a column: those of the whole characters that take at most so many
+/// units.
 pub fn bytes_before(
     alloc: Global,
     line: &str,

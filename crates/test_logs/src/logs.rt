@@ -1,4 +1,4 @@
-//! What passes between a client and a server, as a watch sees it.
+//! What a watch sees between a client and a server.
 ghost use Rattle.std.specs.Prelude.{◌≡◌, ◌∷◌, [], List, IfOk, Some, true, false};
 ghost use Rattle.lsp_judge.specs.Choice.{decides, is_known};
 ghost use Rattle.lsp_message.specs.Message.{Message as Plain};
