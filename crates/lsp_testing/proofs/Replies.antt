@@ -12,8 +12,8 @@ use Rattle.lsp_message.specs.declared.msg.Response as resp
 use Rattle.lsp_testing.specs.Client.{is_reply_to, TakesReply}
 
 module _ (id : Id) (old : List msg.Message) (place : ℕ) (removed : msg.Message) (inside : place < length old)
-    (holds : HoldsAt (λ m. is_reply_to id m ≡ true) old place) (value : removed ≡ slice_index_or old place removed)
-    where
+    (holds : HoldsAt (λ m. is_reply_to id m ≡ true) old place) (value : removed ≡ slice_index_or old place
+    removed) where
   -- what was removed is a reply to the request
   pub is_reply : is_reply_to id removed ≡ true
   is_reply = subst (λ m. is_reply_to id m ≡ true) (sym value) (holds removed)
