@@ -596,9 +596,10 @@ def messages_of(data, limit=GREATEST, breaks=False, room=GREATEST):
             return messages, "exit", left
 
 
-def served(server, data, breaks, limit, passes=False, room=GREATEST):
+def served(server, data, breaks, limit, passes=False, room=GREATEST, reserves=True):
     """What a session of a server with no capabilities says at its end, the messages that it sends for these bytes, and how many
-    content parts that are no messages it ignored, of each kind. Each reply is there before the next read."""
+    content parts that are no messages it ignored, of each kind. Each reply is there before the next read. `reserves` says whether memory
+    for a content part is reserved before its bytes arrive. If not, a length that no memory holds is that of a part that is cut off."""
     session, counts = Session(server, room), dict.fromkeys(OF_BODY, 0)
     for came, _ in reads(data, limit, breaks):
         if isinstance(came, dict):
@@ -608,6 +609,7 @@ def served(server, data, breaks, limit, passes=False, room=GREATEST):
             # (what is passed over wakes the server)
             end = session.sends(server.woken())
         else:
+            came = 7 if came == 11 and not reserves else came
             end = AT_END[session.state] if came == "end" else "out of memory" if came == 11 else f"read fault {came}"
         if end:
             return end, session.sent, list(counts.values())
@@ -621,6 +623,7 @@ def pumped(data, breaks, limit):
 
 STREAMS = {
     "session": lambda *words: served(Echo(), *words)[:2],
+    "session alone": lambda *words: served(Echo(), *words, reserves=False)[:2],
     "speaks": lambda *words: served(Talker(), *words)[:2],
     "line": lambda *words: served(Talker(), *words)[:2],
     "tolerant": lambda data, breaks, limit: served(Talker() if limit == GREATEST else Unwoken(), data, breaks, limit, True)[:2],

@@ -5,15 +5,17 @@ use Rattle.std.proofs.Math.Seq.{take-add}
 use Rattle.std.proofs.Common.{append-nil, length, arith, Ok, Err, Option, Some}
 use Rattle.std.specs.List.{FoldsTo}
 use Rattle.lsp_message.specs.Message.{Message}
+use Rattle.lsp_message.specs.Written.{AreFramesOf}
+use Rattle.lsp_session.proofs.Ran.{no_one}
 use Rattle.lsp_message.specs.declared.frame.limits.Limits.{Limits}
 use Rattle.lsp_message.specs.declared.frame.ReadFault.{ReadFault}
 use Rattle.lsp_session.specs.ByteSession.{Standing, Exchanged, Exchanges, Goes, Answers, Comes, IsFrameRead, reads_of}
 use Rattle.lsp_session.specs.ByteSession.{writes_of, WritesTurn, BeginsWithFault, BringMessages, IsMessage}
 use Rattle.lsp_session.specs.Event.{Event, message, closed}
-use Rattle.lsp_session.specs.Machine.{Advances, IsAwaited}
+use Rattle.lsp_session.specs.Machine.{Advances, End, IsAwaited}
 use Rattle.lsp_session.specs.PendingOutput.{AddsFrames, AddsSome}
 use Rattle.lsp_session.specs.ProtocolError.{ProtocolFault, out_of_memory}
-use Rattle.lsp_session.specs.Session.{Behavior}
+use Rattle.lsp_session.specs.Session.{Behavior, no_more}
 use Rattle.lsp_session.specs.SessionOutcome.{served_by}
 use Rattle.lsp_session.specs.TransportTurn.{IsOver}
 use Rattle.lsp_session.specs.declared.loops.ReadEnd.{ReadEnd}
@@ -91,7 +93,7 @@ module _ (limits : Limits) (most : ℕ) {S : Type 0} (may : Behavior S) where
   over_wrote sent written gone stage over (inl all) = subst IsOver (sym all.0) over
   over_wrote sent written gone stage over (inr some) = subst IsOver (sym some.over) tt
 
-  awaits_end : (stage : Stage) → (IsAwaited stage closed → ⊥) → IsOver stage
+  pub awaits_end : (stage : Stage) → (IsAwaited stage closed → ⊥) → IsOver stage
   awaits_end Starting never = absurd (never tt)
   awaits_end Replied never = absurd (never tt)
   awaits_end Serving never = absurd (never tt)
@@ -116,6 +118,17 @@ module _ (limits : Limits) (most : ℕ) {S : Type 0} (may : Behavior S) where
       over_wrote answers.sent written answers.gone c.stage (over_end a.stage awaited a.service c.service answers.sent
       answers.gone answers.advances) answers.writes
   closed_over a c (inr (never, kept)) = subst (λ (b : Standing S). IsOver b.stage) (sym kept) (awaits_end a.stage never)
+
+  -- at the end of the messages nothing is sent
+  pub closed_silent : (a c : Standing S) → Comes may a closed c → c.pending ≡ a.pending
+  closed_silent a c (inl (awaited, written, answers)) =
+      answers.pending ∙ ap (λ l. a.pending ++ l) (silent answers.advances answers.writes) ∙ append-nil a.pending
+    where
+      silent : End may (a.stage, a.service) no_more answers.sent (answers.gone, c.service)
+          → WritesTurn answers.sent written answers.gone c.stage → written ≡ []
+      silent e (inl all) = subst (λ l. AreFramesOf l written) e.silent all.1
+      silent e (inr out) = absurd (no_one out.part out.more out.unsent (sym out.cut ∙ e.silent))
+  closed_silent a c (inr (never, kept)) = ap (λ (b : Standing S). b.pending) kept
 
   -- a session that has not ended got messages alone
   got_messages : (a b : Standing S) (d : Option ReadEnd) (xs : List Exchanged) (left : List ℕ) (e : Option ReadEnd)
@@ -215,13 +228,13 @@ module _ (limits : Limits) (most : ℕ) {S : Type 0} (may : Behavior S) where
 
   -- the messages end with a fault, and it is reported
   pub goes_closed : (a c : Standing S) (u w : List ℕ) (d f : Option ReadEnd) (fault : ReadFault)
-      → f ≡ Some (AtFault fault) → BeginsWithFault limits u fault → w ≡ u → (IsOver a.stage → ⊥) → Comes may a closed c
-      → Goes limits most may a u d [] c w f
-  goes_closed a c u w d f fault reported begins same lasts (inl (awaited, written, answers)) =
+      → f ≡ Some (AtFault fault) → BeginsWithFault limits u fault → w ≡ u → length a.pending ≤ most
+      → (IsOver a.stage → ⊥) → Comes may a closed c → Goes limits most may a u d [] c w f
+  goes_closed a c u w d f fault reported begins same room lasts (inl (awaited, written, answers)) =
       one a c (record { event = closed; read = []; written = written }) (record {
         awaited = awaited;
         read = refl;
-        room = tt;
+        room = room;
         answers = answers;
       }) u w (sym same) d f (inr (
         refl,
@@ -232,7 +245,7 @@ module _ (limits : Limits) (most : ℕ) {S : Type 0} (may : Behavior S) where
           subst (λ l. BeginsWithFault limits l fault) (sym same) begins,
         ),
       ))
-  goes_closed a c u w d f fault reported begins same lasts (inr (never, kept)) =
+  goes_closed a c u w d f fault reported begins same room lasts (inr (never, kept)) =
       absurd (lasts (awaits_end a.stage never))
 
   awaited_message : (stage : Stage) (m : Message) → (IsOver stage → ⊥) → IsAwaited stage (message m)

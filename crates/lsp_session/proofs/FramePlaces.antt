@@ -1,10 +1,11 @@
 -- What the place of a frame says of its bytes.
 use Rattle.std.proofs.Common.{◌≡◌, ◌≢◌, refl, sym, ap, subst, ◌∙◌, ℕ, ◌+◌, ◌-◌, ◌<◌, ◌≤◌, Bool, true, false, nat_lt}
+use Rattle.std.proofs.Common.{cond}
 use Rattle.std.proofs.Common.{eqb, get_or, MatchOption, List, [], ◌∷◌, ◌++◌, length, append_assoc, append-nil}
 use Rattle.std.proofs.Common.{length-append, length-drop}
 use Rattle.std.proofs.Common.{take, drop, take_all, drop_of_length-le, le_refl, Option, Some, None, Result, Ok, Err}
 use Rattle.std.proofs.Common.{arith, inl, inr, ◌⊎◌, take-append-drop, true≢false, if◌then◌else◌}
-use Rattle.std.proofs.Math.Seq.{get_or-append_seam, take-append_seam, drop-append_seam}
+use Rattle.std.proofs.Math.Seq.{get_or-append_seam, take-append_seam, drop-append_seam, drop-append-add}
 use Rattle.std.proofs.lemmas.Bool.{lt-ltb, le-ltb}
 use Rattle.std.proofs.lemmas.Bool.Decides.{Decides-eqb}
 use Rattle.std.proofs.lemmas.List.{take-append-le}
@@ -14,7 +15,7 @@ use Rattle.std.specs.Result.{result_err, is_err, is_ok}
 use Rattle.std.specs.Str.{chars, is_utf8}
 use Rattle.json.specs.Json.{value}
 use Rattle.json.specs.Lex.{lex, punctuate}
-use Rattle.lsp_message.specs.Frame.{body_means, content_of, header_under, reading_within}
+use Rattle.lsp_message.specs.Frame.{body_means, body_of, content_of, header_under, reading_within}
 use Rattle.lsp_message.specs.Front.{front_of, at_header_end}
 use Rattle.lsp_message.specs.HeaderPart.{header_line, header_of, is_field, length_in, or_else, at_last_line}
 use Rattle.lsp_message.specs.Message.{Message}
@@ -27,14 +28,15 @@ use Rattle.lsp_message.specs.declared.frame.ReadFault.TheVariants.{LineNotText, 
 use Rattle.lsp_message.specs.declared.frame.header.HeaderLine.{HeaderLine}
 use Rattle.lsp_message.specs.declared.frame.header.HeaderLine.TheVariants.{Blank}
 use Rattle.lsp_message.specs.declared.frame.limits.Limits.{Limits}
-use Rattle.lsp_message.proofs.HeaderSteps.{header_after}
-use Rattle.lsp_session.specs.ByteSession.{AwaitsMore, BeginsWithFault, IsFrameRead}
+use Rattle.lsp_message.proofs.HeaderSteps.{header_after, header_after-rest}
+use Rattle.lsp_session.specs.ByteSession.{AwaitsMore, BeginsWithFault, IsEndOf, IsFrameRead}
 use Rattle.lsp_session.specs.FramePlace.{HasNoFeed, IsLine, AreFields, InHeader, IsHeader, InContent, IsFaultOf}
 use Rattle.lsp_session.specs.FramePlace.{IsPlaceOf}
+use Rattle.lsp_session.specs.declared.loops.ReadEnd.TheVariants.{End as AtEnd, Fault as AtFault}
 use Rattle.lsp_session.specs.declared.loops.frame_input.Place.{Place}
 use Rattle.lsp_session.specs.declared.loops.frame_input.Place.TheVariants.{Header, Content, Fault}
 use Rattle.lsp_session.proofs.HeaderLines.{IsOpen, open_header, open_line, open_front, unended, header_at, front_at}
-use Rattle.lsp_session.proofs.HeaderLines.{fields_more, last_header}
+use Rattle.lsp_session.proofs.HeaderLines.{fields_more, last_header, Leaves, leaves_then, open_leaves}
 use Rattle.lsp_session.proofs.HeaderLines.{last_front, no_feed_joined, fields_none}
 
 -- a bound that the header part keeps
@@ -46,6 +48,12 @@ pub added : {E : Type 0} (r : Result Unit E) (failed : Bool) (old x new : List �
     → new ≡ (if is_ok r then old ++ x else old) → new ≡ old ++ x
 added (Ok done) failed old x new fails is items = items
 added (Err fault) failed old x new fails is items = absurd (true≢false (sym fails ∙ is))
+
+-- bytes for which there was no memory
+pub kept_whole : {E : Type 0} (r : Result Unit E) (failed : Bool) (old x new : List ℕ) → failed ≡ is_err r
+    → failed ≡ true → new ≡ (if is_ok r then old ++ x else old) → new ≡ old
+kept_whole (Ok done) failed old x new fails is items = absurd (true≢false (sym is ∙ fails))
+kept_whole (Err fault) failed old x new fails is items = items
 
 -- bytes that were added are dropped again
 pub put_back : (old x new back : List ℕ) (count : ℕ) → new ≡ old ++ x → count ≡ length old → back ≡ take count new
@@ -98,22 +106,38 @@ nothing : body_means [] ≡ Err NoJson
 unfolding value is_utf8 chars lex punctuate
 nothing = refl
 
-pub fault_kept : (limits : Limits) (text : List ℕ) (fault : ReadFault) → (reading_within limits text).outcome
-    ≡ Err fault → IsFaultOf limits text fault
-fault_kept limits text fault is = ap result_err is
+module _ (limits : Limits) (text : List ℕ) (fault : ReadFault) where
+  -- whatever follows, a reader finds the fault and leaves what follows
+  abbrev Exact : Type 0
+  Exact = (more : List ℕ) → reading_within limits (text ++ more) ≡ record { outcome = Err fault; rest = more }
 
-pub fault_known : (limits : Limits) (text : List ℕ) (fault : ReadFault) → IsFaultOf limits text fault
-    → (reading_within limits text).outcome ≡ Err fault
-fault_known limits text fault is = known (reading_within limits text).outcome is
-  where
-    known : (r : Result (Option Message) ReadFault) → result_err r ≡ Some fault → r ≡ Err fault
-    known (Ok found) e = cc (e)
-    known (Err other) e = cc (e)
+  fault_of : fault ≢ Memory → Exact → IsFaultOf limits text fault
+  fault_of bytes exact = record {
+    of_bytes = bytes;
+    answer = λ more. ap (λ (r : Reading Message). result_err r.outcome) (exact more);
+    left = λ more. ap (λ (r : Reading Message). r.rest) (exact more);
+  }
+
+  exact_fault : IsFaultOf limits text fault → Exact
+  exact_fault is more =
+      let r = reading_within limits (text ++ more) in
+      ap (λ o. record { outcome = o; rest = r.rest }) (known r.outcome (is.answer more))
+      ∙ ap (λ l. record { outcome = Err fault; rest = l }) (is.left more)
+    where
+      known : (a : Result (Option Message) ReadFault) → result_err a ≡ Some fault → a ≡ Err fault
+      known (Ok found) e = cc (e)
+      known (Err other) e = cc (e)
 
 pub begins_with : (limits : Limits) (text : List ℕ) (fault : ReadFault) → IsFaultOf limits text fault
     → BeginsWithFault limits text fault
-begins_with limits text Memory is = tt
-begins_with limits text fault is = fault_known limits text fault is
+begins_with limits text Memory is = absurd (is.of_bytes refl)
+begins_with limits text fault is = exact_fault limits text _ is
+
+-- the input ends behind a fault
+pub end_at : (limits : Limits) (text : List ℕ) (fault : ReadFault) → IsFaultOf limits text fault
+    → IsEndOf limits text (AtFault fault)
+end_at limits text fault is = subst (λ l. reading_within limits l ≡ record { outcome = Err fault; rest = [] })
+    (append-nil text) (exact_fault limits text fault is [])
 
 -- an answer is no fault
 none_fault : (a : Result (Option Message) ReadFault) (fault : ReadFault) → a ≡ Ok None → a ≡ Err fault → ⊥
@@ -136,26 +160,72 @@ module _ (limits : Limits) where
       - length h.rest ≤ most) (sym is) (fits most refl)) in
       rw below is
 
-  over : (bound : Option ℕ) (text : List ℕ) (most : ℕ) → bound ≡ Some most → (header_of text).rest ≡ []
-      → most < length text → (header_under bound text).outcome ≡ Err HeaderTooLong
-  over None text most is rest above = absurd (cc (is))
-  over (Some n) text most is rest above =
+  -- a header part with one byte above the bound
+  over : (bound : Option ℕ) (text more : List ℕ) (most : ℕ) → bound ≡ Some most
+      → Leaves more (header_of (text ++ more)).rest → most < length text → length text ≤ most + 1
+      → header_under bound (text ++ more) ≡ record { outcome = Err HeaderTooLong; rest = more }
+  over None text more most is left above least = absurd (cc (is))
+  over (Some n) text more most is left above least =
       let same : n ≡ most = some is in
-      let left : length (header_of text).rest ≡ 0 = ap length rest in
-      let long = lt-ltb n (length text - length (header_of text).rest) (omega (arith, same, left, above)) in
-      rw long refl
+      let all = length-append text more in
+      let end = ap (λ (l : List ℕ). length l) left.1 ∙ length-append left.0 (header_of (text ++ more)).rest in
+      let long = lt-ltb n (length (text ++ more) - length (header_of (text ++ more)).rest) (omega (
+        arith,
+        same,
+        all,
+        end,
+        above,
+      )) in
+      let one : n + 1 ≡ length text = omega (arith, same, above, least) in
+      let behind : drop (n + 1) (text ++ more) ≡ more = ap (λ k. drop k (text ++ more)) one
+      ∙ drop-append_seam text more in
+      rw (long, behind) refl
     where
       some : {A : Type 0} {a b : A} → Some a ≡ Some b → a ≡ b
       some e = cc (e)
 
   reads : (text : List ℕ) (r : Reading ℕ) → header_under limits.header text ≡ r
-      → (reading_within limits text).outcome ≡ (content_of body_means limits.content r.outcome r.rest).outcome
-  reads text r is = ap (λ (h : Reading ℕ). (content_of body_means limits.content h.outcome h.rest).outcome) is
+      → reading_within limits text ≡ content_of body_means limits.content r.outcome r.rest
+  reads text r is = ap (λ (h : Reading ℕ). content_of body_means limits.content h.outcome h.rest) is
 
-  too_long : (text : List ℕ) → (header_under limits.header text).outcome ≡ Err HeaderTooLong
-      → (reading_within limits text).outcome ≡ Err HeaderTooLong
-  too_long text is = ap (λ o. (content_of body_means limits.content o (header_under limits.header text).rest).outcome)
-      is
+  answers : (text : List ℕ) (r : Reading ℕ) → header_under limits.header text ≡ r
+      → (reading_within limits text).outcome ≡ (content_of body_means limits.content r.outcome r.rest).outcome
+  answers text r is = ap (λ (a : Reading Message). a.outcome) (reads text r is)
+
+  -- ---- what is left
+
+  under_leaves : (bound : Option ℕ) (text more : List ℕ) → ((most : ℕ) → bound ≡ Some most → length text ≤ most)
+      → Leaves more (header_of (text ++ more)).rest → Leaves more (header_under bound (text ++ more)).rest
+  under_leaves None text more fits left = left
+  under_leaves (Some most) text more fits left =
+      at (nat_lt most (length (text ++ more) - length (header_of (text ++ more)).rest))
+    where
+      room : ℕ
+      room = most + 1 - length text
+
+      behind : drop (most + 1) (text ++ more) ≡ drop room more
+      behind = let sum : most + 1 ≡ length text + room = omega (arith, fits most refl) in
+          ap (λ k. drop k (text ++ more)) sum ∙ drop-append-add text more room
+
+      at : (t : Bool) → Leaves more (cond {A = Reading ℕ} t (record {
+        outcome = Err HeaderTooLong;
+        rest = drop (most + 1) (text ++ more);
+      }) (header_of (text ++ more))).rest
+      at true = (take room more, sym (take-append-drop room more) ∙ ap (λ l. take room more ++ l) (sym behind))
+      at false = left
+
+  content_leaves : (count : Result (Option ℕ) ReadFault) (text : List ℕ)
+      → Leaves text (content_of body_means limits.content count text).rest
+  content_leaves (Err fault) text = ([], refl)
+  content_leaves (Ok None) text = ([], refl)
+  content_leaves (Ok (Some n)) text = at (nat_lt limits.content n) (nat_lt (length text) n)
+    where
+      at : (t s : Bool) → Leaves text (cond {A = Reading Message} t (record { outcome = Err TooLong; rest = text })
+          (cond {A = Reading Message} s (record { outcome = Err ShortBody; rest = [] })
+          (record { outcome = found (body_means (take n text)); rest = drop n text }))).rest
+      at true s = ([], refl)
+      at false true = (text, sym (append-nil text))
+      at false false = (take n text, sym (take-append-drop n text))
 
   open_rest : (r : Reading ℕ) → IsOpen r → r.rest ≡ []
   open_rest r (inl is) = ap (λ (h : Reading ℕ). h.rest) is
@@ -165,10 +235,11 @@ module _ (limits : Limits) where
   -- the reading of bytes whose header part is open is no limit's fault
   open_fits : (text : List ℕ) (fault : ReadFault) → IsOpen (header_under limits.header text)
       → fault ≢ LineNotText → fault ≢ LineEnd → (reading_within limits text).outcome ≢ Err fault
-  open_fits text fault (inl is) not_text not_end = λ e. none_fault _ fault (reads text _ is) e
+  open_fits text fault (inl is) not_text not_end = λ e. none_fault _ fault (answers text _ is) e
   open_fits text fault (inr (inl is)) not_text not_end = λ e. not_text (same_fault _ fault LineNotText e
-      (reads text _ is))
-  open_fits text fault (inr (inr is)) not_text not_end = λ e. not_end (same_fault _ fault LineEnd e (reads text _ is))
+      (answers text _ is))
+  open_fits text fault (inr (inr is)) not_text not_end = λ e. not_end (same_fault _ fault LineEnd e
+      (answers text _ is))
 
   module _ (text : List ℕ) (line : ℕ) (given : Option ℕ) (are : AreFields given (take line text)) where
     parts : take line text ++ drop line text ≡ text
@@ -186,6 +257,21 @@ module _ (limits : Limits) where
         subst IsOpen (sym (under limits.header text (header_of text) refl (λ most is.
         let below = fits most is in omega (arith, left, below)))) (open_here plain)
 
+    -- what is left is behind the text
+    open_left : HasNoFeed (drop line text) → (more : List ℕ) → Leaves more (header_of (text ++ more)).rest
+    open_left plain more =
+        let here : header_of (text ++ more) ≡ header_after given (drop line text ++ more) =
+        ap (λ l. header_of (l ++ more)) (sym parts) ∙ ap header_of (append_assoc (take line text) (drop line text) more)
+        ∙ header_at given (take line text) are (drop line text ++ more) in
+        subst (λ (r : Reading ℕ). Leaves more r.rest) (sym here) (open_leaves given (drop line text) more plain)
+
+    line_within : HasNoFeed (drop line text) → Fits limits text → (more : List ℕ)
+        → Leaves more (reading_within limits (text ++ more)).rest
+    line_within plain fits more =
+        let header = header_under limits.header (text ++ more) in
+        leaves_then more header.rest _ (under_leaves limits.header text more fits (open_left plain more))
+        (content_leaves header.outcome header.rest)
+
     -- a line without its end: more has to come
     pub awaits_line : HasNoFeed (drop line text) → Fits limits text → AwaitsMore limits text
     awaits_line plain fits = record {
@@ -193,6 +279,7 @@ module _ (limits : Limits) where
           ∙ open_front _ given (drop line text) plain;
       header_fits = open_fits text HeaderTooLong (open_under plain fits) (λ e. cc (e)) (λ e. cc (e));
       content_fits = open_fits text TooLong (open_under plain fits) (λ e. cc (e)) (λ e. cc (e));
+      within = line_within plain fits;
     }
 
     module _ (whole : IsLine (drop line text)) (answer : Result HeaderLine ReadFault)
@@ -225,26 +312,29 @@ module _ (limits : Limits) where
           ∙ last_front given (take line text) are whole.stem whole.plain answer known stops more
           ∙ ap (λ l. at_header_end (length (l ++ more)) (at_last_line given answer) (length more)) here
 
-      -- what is read of the text if the header part gives no length
-      pub ended_fault : (fault : ReadFault) → is_field answer ≡ false → Fits limits text
-          → at_last_line given answer ≡ Err fault → (reading_within limits text).outcome ≡ Err fault
-      ended_fault fault stops fits last =
-          reads text _ (ap (header_under limits.header) (sym (append-nil text)) ∙ ended_within stops fits [])
-          ∙ ap (λ o. (content_of body_means limits.content o []).outcome) last
+      -- the header part gives no length
+      pub ended_fault : (fault : ReadFault) → fault ≢ Memory → is_field answer ≡ false → Fits limits text
+          → at_last_line given answer ≡ Err fault → IsFaultOf limits text fault
+      ended_fault fault bytes stops fits last = fault_of limits text fault bytes (λ more. reads (text ++ more) _
+          (ended_within stops fits more) ∙ ap (λ o. content_of body_means limits.content o more) last)
 
-      rest_none : (t : Bool) → is_field answer ≡ t → (header_of text).rest ≡ []
-      rest_none true goes = ap (λ l. (header_of l).rest) (sym (append-nil text))
-          ∙ ap (λ (h : Reading ℕ). h.rest) (header_at (or_else (length_in answer) given) text (more_fields goes) [])
-      rest_none false stops = ap (λ l. (header_of l).rest) (sym (append-nil text))
-          ∙ ap (λ (h : Reading ℕ). h.rest) (ended stops [])
+      line_left : (t : Bool) → is_field answer ≡ t → (more : List ℕ) → Leaves more (header_of (text ++ more)).rest
+      line_left true goes more = subst (λ (r : Reading ℕ). Leaves more r.rest)
+          (sym (header_at (or_else (length_in answer) given) text (more_fields goes) more))
+          (header_after-rest (or_else (length_in answer) given) more)
+      line_left false stops more = subst (λ (r : Reading ℕ). Leaves more r.rest) (sym (ended stops more)) ([], refl)
 
-    -- a header part above its bound
+    above_left : HasNoFeed (drop line text) ⊎ IsLine (drop line text) → (more : List ℕ)
+        → Leaves more (header_of (text ++ more)).rest
+    above_left (inl plain) more = open_left plain more
+    above_left (inr whole) more = line_left whole (header_line (drop line text)) refl
+        (is_field (header_line (drop line text))) refl more
+
+    -- a header part with one byte above its bound
     pub above_bound : HasNoFeed (drop line text) ⊎ IsLine (drop line text) → (most : ℕ) → limits.header ≡ Some most
-        → most < length text → (reading_within limits text).outcome ≡ Err HeaderTooLong
-    above_bound (inl plain) most is above = too_long text (over limits.header text most is
-        (open_rest _ (open_here plain)) above)
-    above_bound (inr whole) most is above = too_long text (over limits.header text most is (rest_none whole
-        (header_line (drop line text)) refl (is_field (header_line (drop line text))) refl) above)
+        → most < length text → length text ≤ most + 1 → IsFaultOf limits text HeaderTooLong
+    above_bound ends most is above least = fault_of limits text HeaderTooLong (λ e. cc (e)) (λ more.
+        reads (text ++ more) _ (over limits.header text more most is (above_left ends more) above least))
 
     -- the line is the blank one
     module _ (whole : IsLine (drop line text)) (is : header_line (drop line text) ≡ Ok Blank)
@@ -254,22 +344,24 @@ module _ (limits : Limits) where
       blank_within size counts more = ended_within whole (Ok Blank) is refl fits more
           ∙ ap (λ g. record { outcome = at_last_line g (Ok Blank); rest = more }) counts
 
-      blank_reads : (size : ℕ) → given ≡ Some size → (reading_within limits text).outcome
-          ≡ (content_of body_means limits.content (Ok (Some size)) []).outcome
-      blank_reads size counts = reads text (record { outcome = Ok (Some size); rest = [] })
-          (ap (header_under limits.header) (sym (append-nil text)) ∙ blank_within size counts [])
+      blank_reads : (size : ℕ) → given ≡ Some size → (more : List ℕ) → reading_within limits (text ++ more)
+          ≡ content_of body_means limits.content (Ok (Some size)) more
+      blank_reads size counts more = reads (text ++ more) (record { outcome = Ok (Some size); rest = more })
+          (blank_within size counts more)
 
-      pub blank_unsized : given ≡ None → (reading_within limits text).outcome ≡ Err NoLength
-      blank_unsized none = ended_fault whole (Ok Blank) is NoLength refl fits (ap (λ g. at_last_line g (Ok Blank)) none)
+      pub blank_unsized : given ≡ None → IsFaultOf limits text NoLength
+      blank_unsized none = ended_fault whole (Ok Blank) is NoLength (λ e. cc (e)) refl fits
+          (ap (λ g. at_last_line g (Ok Blank)) none)
 
-      pub blank_long : (size : ℕ) → given ≡ Some size → limits.content < size
-          → (reading_within limits text).outcome ≡ Err TooLong
-      blank_long size counts long = let above = lt-ltb limits.content size long in blank_reads size counts ∙ (rw above
-          refl)
+      pub blank_long : (size : ℕ) → given ≡ Some size → limits.content < size → IsFaultOf limits text TooLong
+      blank_long size counts long = let above = lt-ltb limits.content size long in
+          fault_of limits text TooLong (λ e. cc (e)) (λ more. blank_reads size counts more ∙ (rw above refl))
 
-      pub blank_empty : given ≡ Some 0 → (reading_within limits text).outcome ≡ Err NoJson
-      blank_empty counts = let within = le-ltb limits.content 0 (omega arith) in blank_reads 0 counts ∙ (rw within
-          (ap found nothing))
+      pub blank_empty : given ≡ Some 0 → IsFaultOf limits text NoJson
+      blank_empty counts = let within = le-ltb limits.content 0 (omega arith) in
+          fault_of limits text NoJson (λ e. cc (e)) (λ more.
+          let some = le-ltb (length more) 0 (omega arith) in
+          blank_reads 0 counts more ∙ (rw (within, some) (ap (λ a. record { outcome = found a; rest = more }) nothing)))
 
       pub blank_place : (size : ℕ) → given ≡ Some size → size ≢ 0 → size ≤ limits.content
           → InContent limits text (length text) size
@@ -306,16 +398,48 @@ module _ (limits : Limits) where
     not_above : nat_lt limits.content size ≡ false
     not_above = le-ltb limits.content size is.allowed
 
-    -- some of the content part is missing
+    -- the input ends where some of it is missing
+    pub short_part : length content < size → reading_within limits (head ++ content)
+        ≡ record { outcome = Err ShortBody; rest = [] }
+    short_part short =
+        let some = lt-ltb (length content) size short in
+        reads (head ++ content) _ (is.header content) ∙ (rw (not_above, some) refl)
+
+    part_within : length content < size → (more : List ℕ)
+        → Leaves more (reading_within limits ((head ++ content) ++ more)).rest
+    part_within short more = subst (λ (r : Reading Message). Leaves more r.rest) (sym same)
+        (at (nat_lt (length (content ++ more)) size))
+      where
+        left : ℕ
+        left = size - length content
+
+        same : reading_within limits ((head ++ content) ++ more) ≡ body_of body_means size (content ++ more)
+        same = ap (reading_within limits) (append_assoc head content more)
+            ∙ reads (head ++ (content ++ more)) _ (is.header (content ++ more)) ∙ (rw not_above refl)
+
+        behind : drop size (content ++ more) ≡ drop left more
+        behind = let sum : size ≡ length content + left = omega (arith, short) in
+            ap (λ k. drop k (content ++ more)) sum ∙ drop-append-add content more left
+
+        at : (t : Bool) → Leaves more (cond {A = Reading Message} t (record { outcome = Err ShortBody; rest = [] })
+            (record {
+              outcome = found (body_means (take size (content ++ more)));
+              rest = drop size (content ++ more);
+            })).rest
+        at true = (more, sym (append-nil more))
+        at false = (take left more, sym (take-append-drop left more) ∙ ap (λ l. take left more ++ l) (sym behind))
+
+    -- more of it has to come
     pub awaits_part : length content < size → AwaitsMore limits (head ++ content)
     awaits_part short =
         let some = lt-ltb (length content) size short in
         let read : (reading_within limits (head ++ content)).outcome ≡ Err ShortBody =
-        reads (head ++ content) _ (is.header content) ∙ (rw (not_above, some) refl) in
+        ap (λ (r : Reading Message). r.outcome) (short_part short) in
         record {
           more = is.front content ∙ (rw some refl);
           header_fits = λ e. no_header (same_fault _ ShortBody HeaderTooLong read e);
           content_fits = λ e. no_content (same_fault _ ShortBody TooLong read e);
+          within = part_within short;
         }
       where
         no_header : ShortBody ≡ HeaderTooLong → ⊥
@@ -323,11 +447,6 @@ module _ (limits : Limits) where
 
         no_content : ShortBody ≡ TooLong → ⊥
         no_content e = cc (e)
-
-    pub short_part : length content < size → (reading_within limits (head ++ content)).outcome ≡ Err ShortBody
-    short_part short =
-        let some = lt-ltb (length content) size short in
-        reads (head ++ content) _ (is.header content) ∙ (rw (not_above, some) refl)
 
     module _ (all : length content ≡ size) where
       whole_content : (rest : List ℕ) → reading_within limits (head ++ (content ++ rest))
@@ -347,10 +466,11 @@ module _ (limits : Limits) where
           ∙ ap (λ b. record { outcome = found b; rest = rest }) means
 
       -- it is none
-      pub whole_fault : (fault : ReadFault) → body_means content ≡ Err fault
-          → (reading_within limits (head ++ content)).outcome ≡ Err fault
-      whole_fault fault means = ap (λ l. (reading_within limits (head ++ l)).outcome) (sym (append-nil content))
-          ∙ ap (λ (r : Reading Message). r.outcome) (whole_content []) ∙ ap found means
+      pub whole_fault : (fault : ReadFault) → fault ≢ Memory → body_means content ≡ Err fault
+          → IsFaultOf limits (head ++ content) fault
+      whole_fault fault bytes means = fault_of limits (head ++ content) fault bytes (λ more.
+          ap (reading_within limits) (append_assoc head content more) ∙ whole_content more
+          ∙ ap (λ b. record { outcome = found b; rest = more }) means)
 
   -- ---- content parts that go on
 
@@ -377,9 +497,8 @@ module _ (limits : Limits) where
       pub read_fault : (fault : ReadFault) → fault ≢ Memory → Decodes message_view (Err fault)
           (body_means (drop start new)) → IsFaultOf limits new fault
       read_fault Memory other means = absurd (other refl)
-      read_fault fault other means = fault_kept limits new fault (subst (λ (l : List ℕ).
-          (reading_within limits l).outcome ≡ Err fault) (take-append-drop start new) (whole_fault size (take start new)
-          (drop start new) head size_of fault means))
+      read_fault fault other means = subst (λ (l : List ℕ). IsFaultOf limits l fault) (take-append-drop start new)
+          (whole_fault size (take start new) (drop start new) head size_of fault other means)
 
   -- ---- places
 
@@ -413,6 +532,14 @@ module _ (limits : Limits) where
       (awaits_part size (take start text) (drop start text) here.header (missing_part text start size here))
   awaits_at text (Fault kind) here = absurd here
 
+  -- memory ran out, and nothing was added
+  pub memory_ran_out : (text left : List ℕ) (place : Place) → IsPlaceOf limits text place → left ≡ text
+      → (left ≡ text ++ []) × AwaitsMore limits (text ++ [])
+  memory_ran_out text left place here same = (
+    same ∙ sym (append-nil text),
+    subst (AwaitsMore limits) (sym (append-nil text)) (awaits_at text place here),
+  )
+
   pub in_header : (text : List ℕ) (place : Place) → IsPlaceOf limits text place → (line : ℕ) (given : Option ℕ)
       → place ≡ Header line given → InHeader limits text line given
   in_header text place here line given is = subst (IsPlaceOf limits text) is here
@@ -429,24 +556,24 @@ module _ (limits : Limits) where
 
   module _ (text : List ℕ) (line : ℕ) (given : Option ℕ) (here : InHeader limits text line given) where
     end_under : (r : Reading ℕ) → header_after given (drop line text) ≡ r → r.rest ≡ []
-        → (reading_within limits text).outcome ≡ (content_of body_means limits.content r.outcome r.rest).outcome
+        → reading_within limits text ≡ content_of body_means limits.content r.outcome r.rest
     end_under r is none =
         let left : length r.rest ≡ 0 = ap length none in
         reads text r (under limits.header text r (header_here text line given here.fields ∙ is) (λ most bound.
         let below = here.fits most bound in omega (arith, left, below)))
 
-    pub end_of_line : line ≡ length text → (reading_within limits text).outcome ≡ Ok None
+    pub end_of_line : line ≡ length text → IsEndOf limits text AtEnd
     end_of_line is = end_under (record { outcome = Ok None; rest = [] }) (ap (header_after given)
         (drop_of_length-le text (omega (arith, is)))) refl
 
     end_at_fault : (tail : List ℕ) → drop line text ≡ tail → 0 < length tail → (fault : ReadFault)
-        → header_line tail ≡ Err fault → (reading_within limits text).outcome ≡ Err fault
+        → header_line tail ≡ Err fault → IsEndOf limits text (AtFault fault)
     end_at_fault [] same some fault is = absurd (omega (arith, some))
     end_at_fault (b ∷ bs) same some fault is = end_under (record { outcome = Err fault; rest = [] })
         (ap (header_after given) same ∙ open_line given b bs (subst HasNoFeed same here.unended) fault is) refl
 
     pub end_in_line : line ≢ length text → MatchOption (result_err (header_line (drop line text)))
-        ((reading_within limits text).outcome ≡ Ok None) (IsFaultOf limits text)
+        (IsEndOf limits text AtEnd) (λ fault. IsEndOf limits text (AtFault fault))
     end_in_line other = at (unended (drop line text) here.unended)
       where
         some : 0 < length (drop line text)
@@ -454,13 +581,12 @@ module _ (limits : Limits) where
 
         at : (header_line (drop line text) ≡ Err LineNotText) ⊎ (header_line (drop line text) ≡ Err LineEnd)
             → MatchOption (result_err (header_line (drop line text)))
-            ((reading_within limits text).outcome ≡ Ok None) (IsFaultOf limits text)
-        at (inl is) = rw is (fault_kept limits text LineNotText (end_at_fault (drop line text) refl some LineNotText
-            is))
-        at (inr is) = rw is (fault_kept limits text LineEnd (end_at_fault (drop line text) refl some LineEnd is))
+            (IsEndOf limits text AtEnd) (λ fault. IsEndOf limits text (AtFault fault))
+        at (inl is) = rw is (end_at_fault (drop line text) refl some LineNotText is)
+        at (inr is) = rw is (end_at_fault (drop line text) refl some LineEnd is)
 
   pub end_in_content : (text : List ℕ) (start size : ℕ) → InContent limits text start size
-      → IsFaultOf limits text ShortBody
-  end_in_content text start size here = fault_kept limits text ShortBody (subst (λ (l : List ℕ).
-      (reading_within limits l).outcome ≡ Err ShortBody) (take-append-drop start text) (short_part size
-      (take start text) (drop start text) here.header (missing_part text start size here)))
+      → IsEndOf limits text (AtFault ShortBody)
+  end_in_content text start size here = subst (λ (l : List ℕ).
+      reading_within limits l ≡ record { outcome = Err ShortBody; rest = [] }) (take-append-drop start text)
+      (short_part size (take start text) (drop start text) here.header (missing_part text start size here))

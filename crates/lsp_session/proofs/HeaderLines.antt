@@ -1,6 +1,6 @@
 -- The header part of a frame whose bytes come in pieces, line by line.
-use Rattle.std.proofs.Common.{◌≡◌, refl, sym, ap, ◌∙◌, ℕ, zero, suc, ◌+◌, ◌-◌, ◌<◌, ◌≤◌, Bool, true, false}
-use Rattle.std.proofs.Common.{eqb, eq-eqb, eqb-true, ne_eqb, List, [], ◌∷◌, ◌++◌, length, append_assoc}
+use Rattle.std.proofs.Common.{◌≡◌, refl, sym, ap, subst, ◌∙◌, ℕ, zero, suc, ◌+◌, ◌-◌, ◌<◌, ◌≤◌, Bool, true, false}
+use Rattle.std.proofs.Common.{cond, eqb, eq-eqb, eqb-true, ne_eqb, List, [], ◌∷◌, ◌++◌, length, append_assoc}
 use Rattle.std.proofs.Common.{length-append, take, get_or, Option, Some, None, Result, Ok, Err, arith, inl, inr}
 use Rattle.std.proofs.Common.{◌⊎◌}
 use Rattle.std.proofs.Common.{get_or-take, length-take-le, le_refl, nat_lt}
@@ -8,7 +8,7 @@ use Rattle.std.proofs.Math.Seq.{get_or-append_seam, take-suc}
 use Rattle.std.proofs.lemmas.Bool.{lt-ltb, ltb-true, ltb-false}
 use Rattle.std.proofs.lemmas.Bool.Decides.{Decides-eqb}
 use Rattle.std.proofs.lemmas.Slice.Eq.{ends_is}
-use Rattle.std.specs.Io.BufRead.{ends_with_byte}
+use Rattle.std.specs.Io.BufRead.{ends_with_byte, drop_through}
 use Rattle.std.specs.List.{ends_with}
 use Rattle.std.specs.Str.{is_utf8}
 use Rattle.memchr.specs.Find.{IsFirstByte, is_byte}
@@ -21,7 +21,8 @@ use Rattle.lsp_message.specs.declared.frame.ReadFault.{ReadFault}
 use Rattle.lsp_message.specs.declared.frame.ReadFault.TheVariants.{LineNotText, LineEnd}
 use Rattle.lsp_message.specs.declared.frame.header.HeaderLine.{HeaderLine}
 use Rattle.lsp_message.proofs.FrontSteps.{front_after, at_no_feed}
-use Rattle.lsp_message.proofs.HeaderSteps.{header_after, concat-lines, or_else-assoc, or_else-none}
+use Rattle.lsp_message.proofs.HeaderSteps.{header_after, header_after-line, header_after-rest, concat-lines}
+use Rattle.lsp_message.proofs.HeaderSteps.{or_else-assoc, or_else-none}
 use Rattle.lsp_session.specs.FramePlace.{HasNoFeed, IsLine, AreFields}
 
 -- ---- texts without a line feed
@@ -201,3 +202,35 @@ open_header given (b ∷ bs) plain = at (unended (b ∷ bs) plain)
         → IsOpen (header_after given (b ∷ bs))
     at (inl is) = inr (inl (open_line given b bs plain LineNotText is))
     at (inr is) = inr (inr (open_line given b bs plain LineEnd is))
+
+-- ---- what is left
+
+-- the second bytes are the end of the first
+abbrev pub Leaves : List ℕ → List ℕ → Type 0
+Leaves text rest = (read : List ℕ) × (text ≡ read ++ rest)
+
+pub leaves_then : (a b c : List ℕ) → Leaves a b → Leaves b c → Leaves a c
+leaves_then a b c first more = (
+  first.0 ++ more.0,
+  first.1 ∙ ap (λ l. first.0 ++ l) more.1 ∙ sym (append_assoc first.0 more.0 c),
+)
+
+after_line : (text : List ℕ) → Leaves text (drop_through 10 text)
+after_line [] = ([], refl)
+after_line (b ∷ bs) = at (eqb b 10) (after_line bs)
+  where
+    at : (t : Bool) → Leaves bs (drop_through 10 bs) → Leaves (b ∷ bs) (cond t bs (drop_through 10 bs))
+    at true later = (b ∷ [], refl)
+    at false later = (b ∷ later.0, ap (λ l. b ∷ l) later.1)
+
+same_line : (text more : List ℕ) → HasNoFeed text → drop_through 10 (text ++ more) ≡ drop_through 10 more
+same_line [] more plain = refl
+same_line (b ∷ bs) more plain = rw (no_first b bs plain) (same_line bs more (no_rest b bs plain))
+
+-- a header part leaves none of the bytes of a line that they do not end
+pub open_leaves : (given : Option ℕ) (text more : List ℕ) → HasNoFeed text
+    → Leaves more (header_after given (text ++ more)).rest
+open_leaves given [] more plain = header_after-rest given more
+open_leaves given (b ∷ bs) more plain = leaves_then more (drop_through 10 more) _ (after_line more)
+    (subst (λ l. Leaves l (header_after given (b ∷ (bs ++ more))).rest) (same_line (b ∷ bs) more plain)
+    (header_after-line given (b ∷ (bs ++ more))))

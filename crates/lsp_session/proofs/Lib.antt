@@ -5,6 +5,7 @@ pub mod Brought
 pub mod ByteHistory
 pub mod ClientReading
 pub mod Dialogs
+pub mod Driver
 pub mod Driving
 pub mod Forms
 pub mod FramePlaces
@@ -22,6 +23,7 @@ pub mod TransportRuns
 pub mod Noting
 pub mod Ordering
 pub mod Passing
+pub mod Pausing
 pub mod PendingFrames
 pub mod Ran
 pub mod ReadsOn
@@ -37,6 +39,7 @@ pub mod Rows
 pub mod SameTexts
 pub mod Sendings
 pub mod Served
+pub mod SessionDrive
 pub mod SessionGives
 pub mod TransportInOrder
 pub mod TellsBytes

@@ -1,12 +1,14 @@
 -- What ended the messages of a session between bytes.
 use Rattle.std.proofs.Common.{◌≡◌, ◌≢◌, ◌⊎◌, refl, sym, subst, ◌∙◌, inl, inr, ℕ, List, [], Option, Some, None}
-use Rattle.std.proofs.Common.{IsSomeAnd}
+use Rattle.std.proofs.Common.{append-nil, IsSomeAnd, Err}
+use Rattle.lsp_message.specs.Frame.{reading_within}
 use Rattle.lsp_message.specs.Message.{Message}
 use Rattle.lsp_message.specs.declared.frame.ReadFault.{ReadFault}
 use Rattle.lsp_message.specs.declared.frame.ReadFault.TheVariants.{Memory}
 use Rattle.lsp_message.specs.declared.frame.limits.Limits.{Limits}
 use Rattle.lsp_session.proofs.ByteHistory.{over_stays}
-use Rattle.lsp_session.specs.ByteSession.{BeginsWithFault, Comes, IsEndOf, Standing, StopsOtherwise, WritesTurn}
+use Rattle.lsp_session.specs.ByteSession.{AwaitsMore, BeginsWithFault, Comes, IsEndOf, Standing, StopsOtherwise}
+use Rattle.lsp_session.specs.ByteSession.{WritesTurn}
 use Rattle.lsp_session.specs.ByteSessions.{standing, EndIsKnown, EndsAtFrame, KnowsEnd}
 use Rattle.lsp_session.specs.Event.{Event, message, timeout, closed, woken}
 use Rattle.lsp_session.specs.Machine.{Advances, StandsIn}
@@ -100,19 +102,21 @@ known_open limits limits' text text' stage (Some end) waits known = absurd (wait
 
 -- the messages ended so
 pub known_now : {S : Type 0} (new : ByteSession S) (end : ReadEnd) (input : FrameInput) → new.end ≡ Some end
-    → new.input ≡ input → IsOver new.core.stage → IsEndOf input.limits input.bytes.items end ⊎ (end ≡ AtFault Memory)
-    → KnowsEnd new
+    → new.input ≡ input → IsOver new.core.stage → IsEndOf input.limits input.bytes.items end
+    ⊎ ((end ≡ AtFault Memory) × AwaitsMore input.limits input.bytes.items) → KnowsEnd new
 known_now new end input is same over of =
     subst (λ (e : Option ReadEnd). EndIsKnown new.input.limits new.input.bytes.items new.core.stage e) (sym is) (
       over,
-      subst (λ (i : FrameInput). IsEndOf i.limits i.bytes.items end ⊎ (end ≡ AtFault Memory)) (sym same) of,
+      subst (λ (i : FrameInput). IsEndOf i.limits i.bytes.items end
+          ⊎ ((end ≡ AtFault Memory) × AwaitsMore i.limits i.bytes.items)) (sym same) of,
     )
 
 -- a fault with which the bytes begin
 pub begun_end : (limits : Limits) (text : List ℕ) (fault : ReadFault) → BeginsWithFault limits text fault
-    → IsEndOf limits text (AtFault fault) ⊎ (AtFault fault ≡ AtFault Memory)
-begun_end limits text Memory begins = inr refl
-begun_end limits text fault begins = inl begins
+    → IsEndOf limits text (AtFault fault) ⊎ ((AtFault fault ≡ AtFault Memory) × AwaitsMore limits text)
+begun_end limits text Memory begins = inr (refl, begins)
+begun_end limits text fault begins = inl (subst (λ l. reading_within limits l
+    ≡ record { outcome = Err fault; rest = [] }) (append-nil text) (begins []))
 
 -- the input ended so
 pub end_now : (limits : Limits) (text : List ℕ) (end : ReadEnd) (now : Option ReadEnd) → now ≡ Some end

@@ -530,14 +530,6 @@ module _ {L : Type 0} (passes : L → ReadFault → L → Type 0) (never : Skips
     wrote = g.wrote;
   }
 
-  -- if the bytes are known
-  pub untold : (P : SessionPart) (known left : Option (List ℕ)) (first last : L) (before after : Option (List ℕ))
-      (result : Result SessionEnd SessionFault)
-      → IfSome known (λ text. GivesAndTells passes limit P text left first last before after result)
-      → IfSome known (λ text. SessionGives limit P text left before after result)
-  untold P None left first last held written result gives = tt
-  untold P (Some text) left first last held written result g = none_passed P text left first last held written result g
-
 -- A session that is described otherwise, if the bytes are known.
 pub told_as : (P Q : SessionPart)
     (to : (xs : List Exchange) (stop : Stop) (answer : SessionAnswer)

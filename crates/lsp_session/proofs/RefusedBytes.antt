@@ -1,5 +1,5 @@
 -- Runs of a session between bytes and bytes that no bytes bring: a wake or a timeout that nobody reported, an end of
--- the input that nobody reported, and a fault that the bytes do not have.
+-- the input that nobody reported, a fault that the bytes do not have, and bytes that were taken too many.
 use Rattle.lsp_message.specs.Frame.{reading_within}
 use Rattle.lsp_message.specs.Message.{Message}
 use Rattle.lsp_message.specs.Reading.{Reading}
@@ -9,7 +9,8 @@ use Rattle.lsp_message.specs.declared.frame.limits.Limits.{Limits}
 use Rattle.lsp_session.proofs.FramePlaces.{at_start, end_of_line}
 use Rattle.lsp_session.proofs.MessagesEnd.{comes_stops}
 use Rattle.lsp_session.specs.ByteSession.{Standing, Exchanged, Exchanges, Goes, Answers, IsFrameRead, reads_of}
-use Rattle.lsp_session.specs.ByteSession.{BeginsWithFault, BringMessages, IsMessage, IsReadFor, StopsOtherwise}
+use Rattle.lsp_session.specs.ByteSession.{AwaitsMore, BeginsWithFault, BringMessages, IsEndOf, IsMessage, IsReadFor}
+use Rattle.lsp_session.specs.ByteSession.{StopsOtherwise}
 use Rattle.lsp_session.specs.ByteSessions.{EndIsKnown}
 use Rattle.lsp_session.specs.Event.{Event, message, timeout, closed, woken}
 use Rattle.lsp_session.specs.Session.{Behavior}
@@ -29,6 +30,12 @@ no_end e = cc (e)
 
 closed_comes : IsMessage closed → ⊥
 closed_comes is = is
+
+outcome_of : {a b : Reading Message} → a ≡ b → a.outcome ≡ b.outcome
+outcome_of same = ap (λ (r : Reading Message). r.outcome) same
+
+rest_of : {a b : Reading Message} → a ≡ b → a.rest ≡ b.rest
+rest_of same = ap (λ (r : Reading Message). r.rest) same
 
 -- ---- what bytes bring
 
@@ -96,8 +103,7 @@ message_of woken is = absurd is
 -- a message is no empty text
 never_empty : (limits : Limits) (m : Message) → IsFrameRead limits m [] → ⊥
 never_empty limits m is =
-    none_message _ m (end_of_line limits [] 0 None (at_start limits [] refl) refl) (ap (λ (r : Reading Message).
-    r.outcome) (is []))
+    none_message _ m (outcome_of (end_of_line limits [] 0 None (at_start limits [] refl) refl)) (outcome_of (is []))
   where
     none_message : (a : Result (Option Message) ReadFault) (m : Message) → a ≡ Ok None → a ≡ Ok (Some m) → ⊥
     none_message (Ok found) m none some = cc (none, some)
@@ -129,25 +135,50 @@ one_fault e = cc (e)
 no_fault : {f : ReadFault} → ◌≡◌ {A = Result (Option Message) ReadFault} (Err f) (Ok None) → ⊥
 no_fault e = cc (e)
 
+one_end : {f g : ReadFault} → AtFault f ≡ AtFault g → f ≡ g
+one_end e = cc (e)
+
+-- a fault of the bytes
+begun : (limits : Limits) (text : List ℕ) (fault : ReadFault) → fault ≢ Memory → BeginsWithFault limits text fault
+    → (more : List ℕ) → reading_within limits (text ++ more) ≡ record { outcome = Err fault; rest = more }
+begun limits text Memory bytes begins = absurd (bytes refl)
+begun limits text fault bytes begins = begins
+
+-- a reading leaves bytes, and none
+none_left : (r : Reading Message) (byte : ℕ) (more : List ℕ) → r.rest ≡ byte ∷ more → r.rest ≡ [] → ⊥
+none_left r byte more some none = cc (some, none)
+
 module _ (limits : Limits) (most : ℕ) {S : Type 0} (may : Behavior S) (a c : Standing S) (u x w : List ℕ) where
   -- the session reports an end of the input that nobody reported to it
   pub ends_unasked : Goes limits most may a u None x c w (Some AtEnd) → ⊥
   ends_unasked went = let found = reported limits went.exchanges w AtEnd went.events in no_end (ap Some found.1)
 
+  -- a fault that the session reports is found at the end of the unread bytes
+  reads_to : (fault : ReadFault) → fault ≢ Memory → Goes limits most may a u None x c w (Some (AtFault fault))
+      → (more : List ℕ) → reading_within limits (w ++ more) ≡ record { outcome = Err fault; rest = more }
+  reads_to fault bytes went =
+      let found = reported limits went.exchanges w (AtFault fault) went.events in
+      begun limits w fault bytes (subst (BeginsWithFault limits w) (sym (one_end found.1)) found.2)
+
   -- the session reports a fault, and the bytes have another one
   pub reports_another : (fault other : ReadFault) → other ≢ Memory → (reading_within limits w).outcome ≡ Err fault
       → fault ≢ other → Goes limits most may a u None x c w (Some (AtFault other)) → ⊥
   reports_another fault other bytes has differs went =
-      let found = reported limits went.exchanges w (AtFault other) went.events in
-      let same : other ≡ found.0 = one found.1 in
-      differs (only other bytes (subst (BeginsWithFault limits w) (sym same) found.2))
-    where
-      one : {f g : ReadFault} → AtFault f ≡ AtFault g → f ≡ g
-      one e = cc (e)
+      let begins = reads_to other bytes went [] in
+      differs (one_fault (sym has ∙ ap (λ l. (reading_within limits l).outcome) (sym (append-nil w))
+      ∙ outcome_of begins))
 
-      only : (g : ReadFault) → g ≢ Memory → BeginsWithFault limits w g → fault ≡ g
-      only Memory bytes begins = absurd (bytes refl)
-      only g bytes begins = one_fault (sym has ∙ begins)
+  -- the session reports a fault that longer bytes do not have
+  pub reports_a_fault_too_early : (fault : ReadFault) (more : List ℕ) → fault ≢ Memory
+      → (reading_within limits (w ++ more)).outcome ≢ Err fault
+      → Goes limits most may a u None x c w (Some (AtFault fault)) → ⊥
+  reports_a_fault_too_early fault more bytes differs went = differs (outcome_of (reads_to fault bytes went more))
+
+  -- the session takes bytes behind the fault that it reports
+  pub reports_a_fault_too_late : (fault : ReadFault) (byte : ℕ) (more : List ℕ) → fault ≢ Memory
+      → (reading_within limits w).rest ≡ byte ∷ more → Goes limits most may a u None x c w (Some (AtFault fault)) → ⊥
+  reports_a_fault_too_late fault byte more bytes some went = none_left (reading_within limits w) byte more some
+      (ap (λ l. (reading_within limits l).rest) (sym (append-nil w)) ∙ rest_of (reads_to fault bytes went []))
 
 module _ (limits : Limits) (most : ℕ) {S : Type 0} (may : Behavior S) where
   stops_on : (xs : List Exchanged) (a c : Standing S) (w : List ℕ) → FoldsTo (Exchanges limits most may) a xs c
@@ -206,8 +237,8 @@ module _ (limits : Limits) (most : ℕ) {S : Type 0} (may : Behavior S) where
 pub takes_a_cut_frame_for_the_end : (limits : Limits) (text : List ℕ) (stage : Stage) (fault : ReadFault)
     → (reading_within limits text).outcome ≡ Err fault → EndIsKnown limits text stage (Some AtEnd) → ⊥
 takes_a_cut_frame_for_the_end limits text stage fault has known = elim known.1 [
-  | inl is ↦ no_fault (sym has ∙ is)
-  | inr e ↦ cc (e)
+  | inl is ↦ no_fault (sym has ∙ outcome_of is)
+  | inr e ↦ cc (e.0)
 ]
 
 -- the end of the input is reported as a fault
@@ -215,9 +246,31 @@ pub takes_the_end_for_a_fault : (limits : Limits) (text : List ℕ) (stage : Sta
     → fault ≢ Memory → (reading_within limits text).outcome ≡ Ok None
     → EndIsKnown limits text stage (Some (AtFault fault)) → ⊥
 takes_the_end_for_a_fault limits text stage fault bytes has known = elim known.1 [
-  | inl is ↦ no_fault (sym is ∙ has)
-  | inr e ↦ bytes (one e)
+  | inl is ↦ no_fault (sym (outcome_of is) ∙ has)
+  | inr e ↦ bytes (one_end e.0)
+]
+
+-- a session that waits for more took bytes behind the first answer of a reader
+pub takes_bytes_behind_an_answer : (limits : Limits) (text : List ℕ) (byte : ℕ) (left : List ℕ)
+    → (reading_within limits text).rest ≡ byte ∷ left → AwaitsMore limits text → ⊥
+takes_bytes_behind_an_answer limits text byte left some awaits =
+    let end = awaits.within [] in
+    never end.0 (end.1 ∙ ap (λ l. end.0 ++ (reading_within limits l).rest) (append-nil text)
+    ∙ ap (λ l. end.0 ++ l) some)
+  where
+    never : (read : List ℕ) → [] ≡ read ++ byte ∷ left → ⊥
+    never [] e = cc (e)
+    never (b ∷ bs) e = cc (e)
+
+-- bytes are left at what is reported as the end
+pub leaves_bytes_at_the_end : (limits : Limits) (text : List ℕ) (stage : Stage) (end : ReadEnd) (byte : ℕ)
+    (left : List ℕ) → (reading_within limits text).rest ≡ byte ∷ left → EndIsKnown limits text stage (Some end) → ⊥
+leaves_bytes_at_the_end limits text stage end byte left some known = elim known.1 [
+  | inl is ↦ none_left (reading_within limits text) byte left some (all end is)
+  | inr e ↦ takes_bytes_behind_an_answer limits text byte left some e.1
 ]
   where
-    one : {f g : ReadFault} → AtFault f ≡ AtFault g → f ≡ g
-    one e = cc (e)
+    all : (end : ReadEnd) → IsEndOf limits text end → (reading_within limits text).rest ≡ []
+    all AtEnd is = rest_of is
+    all (AtFault fault) is = rest_of is
+    all end is = absurd is

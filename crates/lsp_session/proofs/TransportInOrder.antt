@@ -18,16 +18,13 @@ use Rattle.lsp_session.specs.SessionFault.{session_answer}
 use Rattle.lsp_session.specs.SessionLaws.{Both}
 use Rattle.lsp_session.specs.SessionRun.{Runs}
 use Rattle.lsp_session.specs.StreamTransports.{account_of, inbox_of, outbox_of, IsUnused, KeepsEnds}
-use Rattle.lsp_session.specs.StreamTransports.{StreamTransportGives, StreamTransportSends, GivesBetween, GivesInOrder}
+use Rattle.lsp_session.specs.StreamTransports.{StreamTransportGives, StreamTransportSends, GivesInOrder}
 use Rattle.lsp_session.proofs.Noting.{acts_grown}
 use Rattle.lsp_session.specs.declared.loops.frame_outbox.FrameOutbox.{FrameOutbox}
-use Rattle.lsp_session.specs.declared.loops.handler.SessionEnd.{SessionEnd}
 use Rattle.lsp_session.specs.declared.loops.session_outcome.StopReason.{StopReason}
-use Rattle.lsp_session.specs.declared.loops.stream_session.SessionFault.{SessionFault}
 use Rattle.lsp_session.specs.declared.loops.stream_transport.StreamTransport.{StreamTransport}
 use Rattle.lsp_session.specs.declared.loops.tolerant_inbox.TolerantInbox.{TolerantInbox}
 use Rattle.std.proofs.Common.{◌≡◌, refl, sym, ◌∙◌, ap, subst, ℕ, List, ◌++◌, Option, IfSome}
-use Rattle.std.specs.Prelude.{Result}
 
 module _ {R W L : Type 0} (remaining : R → Option (List ℕ)) (passes : L → ReadFault → L → Type 0) (contents : W
     → Option (List ℕ)) where
@@ -123,15 +120,3 @@ module _ {R W L : Type 0} (remaining : R → Option (List ℕ)) (passes : L → 
       ap (λ (n : ℕ × ℕ × ℕ × ℕ). n.2) ran.1,
       ap (λ (n : ℕ × ℕ × ℕ × ℕ). n.3) ran.1,
     )
-
--- the same, as a transport's clause has it, of what it was lent
-pub known_lent : {R W L : Type 0} (remaining : R → Option (List ℕ)) (passes : L → ReadFault → L → Type 0) (contents : W
-    → Option (List ℕ)) (P : SessionPart) (old new : StreamTransport R W L) (result : Result SessionEnd SessionFault)
-    (limit : Limits) (first last : R) (first' last' : W) → old.limits ≡ limit → old.reader.now ≡ first
-    → old.writer.now ≡ first' → last ≡ new.reader.now → last' ≡ new.writer.now
-    → GivesBetween remaining passes contents P old result new
-    → IfSome (remaining first) (λ text. GivesAndTells passes limit P text (remaining last) old.policy.now new.policy.now
-    (contents first') (contents last') result)
-known_lent remaining passes contents P old new result limit first last first' last' limited unread unwritten read
-    written
-    gives = rw (read, written, ← limited, ← unread, ← unwritten) gives

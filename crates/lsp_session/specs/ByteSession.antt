@@ -27,16 +27,20 @@ use Rattle.lsp_session.specs.declared.loops.session_outcome.StopReason.TheVarian
 abbrev pub IsFrameRead : Limits → Message → List ℕ → Type 0
 IsFrameRead limits m frame = (rest : List ℕ) → Begins limits (frame ++ rest) m rest
 
--- The bytes begin with this fault. Of a want of memory nothing is said of the bytes.
-abbrev pub BeginsWithFault : Limits → List ℕ → ReadFault → Type 0
-BeginsWithFault limits text Memory = Unit {0}
-BeginsWithFault limits text fault = (reading_within limits text).outcome ≡ Err fault
-
--- No message is whole, and no limit is exceeded: more bytes of the first message have to come.
+-- No message is whole, and no limit is exceeded: more bytes of the first message have to come. Whatever these are, a
+-- reader takes all bytes of the text for its first answer.
 pub record AwaitsMore (limits : Limits) (text : List ℕ) : Type 0 where
   pub more : front_of text ≡ More
   pub header_fits : (reading_within limits text).outcome ≢ Err HeaderTooLong
   pub content_fits : (reading_within limits text).outcome ≢ Err TooLong
+  pub within : (rest : List ℕ) → (read : List ℕ) × (rest ≡ read ++ (reading_within limits (text ++ rest)).rest)
+
+-- The bytes are those that a reader takes to find this fault: whatever follows them, it answers with the fault, and
+-- leaves what follows. A want of memory is no fault of the bytes: more of the first message have to come.
+abbrev pub BeginsWithFault : Limits → List ℕ → ReadFault → Type 0
+BeginsWithFault limits text Memory = AwaitsMore limits text
+BeginsWithFault limits text fault = (more : List ℕ)
+    → reading_within limits (text ++ more) ≡ record { outcome = Err fault; rest = more }
 
 -- the bytes are the frame of the message, and none is left; or they stay
 abbrev pub ReadsOne : Limits → List ℕ → Result (Option msg.Message) ReadFault → List ℕ → Type 0
@@ -44,10 +48,11 @@ ReadsOne limits text (Ok (Some m)) left = IsFrameRead limits (message_view m) te
 ReadsOne limits text (Ok None) left = left ≡ text
 ReadsOne limits text (Err fault) left = (left ≡ text) × BeginsWithFault limits text fault
 
--- What a reader has where these bytes end: the end of the input, at the start of a header line, or this fault.
+-- What a reader has where these bytes end: the end of the input, at the start of a header line, or this fault. It has
+-- taken all bytes.
 abbrev pub IsEndOf : Limits → List ℕ → ReadEnd → Type 0
-IsEndOf limits text AtEnd = (reading_within limits text).outcome ≡ Ok None
-IsEndOf limits text (AtFault fault) = (reading_within limits text).outcome ≡ Err fault
+IsEndOf limits text AtEnd = reading_within limits text ≡ record { outcome = Ok None; rest = [] }
+IsEndOf limits text (AtFault fault) = reading_within limits text ≡ record { outcome = Err fault; rest = [] }
 IsEndOf limits text end = ⊥
 
 -- the session goes on, or it ended for another reason than the end of the messages
@@ -59,11 +64,6 @@ StopsOtherwise stage = Unit {0}
 abbrev pub IsReadFor : Limits → Event → List ℕ → Type 0
 IsReadFor limits (message m) read = IsFrameRead limits m read
 IsReadFor limits event read = read ≡ []
-
--- a message is taken only while at most so many bytes are pending
-abbrev pub HasRoomFor : ℕ → Event → List ℕ → Type 0
-HasRoomFor most (message m) pending = length pending ≤ most
-HasRoomFor most event pending = Unit {0}
 
 -- where a session stands: the stage of its machine, its service, and the bytes that it has to send
 pub record Standing (S : Type 0) : Type 0 where
@@ -127,11 +127,11 @@ BringMessages limits was (x ∷ xs) left end = (IsMessage x.event × BringMessag
     × ((fault : ReadFault) × (end ≡ Some (AtFault fault)) × BeginsWithFault limits left fault))
 
 module _ (limits : Limits) (most : ℕ) {S : Type 0} (may : Behavior S) where
-  -- one exchange of a session
+  -- one exchange of a session, which it has only while at most so many bytes are pending
   pub record Exchanges (old : Standing S) (x : Exchanged) (new : Standing S) : Type 0 where
     pub awaited : IsAwaited old.stage x.event
     pub read : IsReadFor limits x.event x.read
-    pub room : HasRoomFor most x.event old.pending
+    pub room : length old.pending ≤ most
     pub answers : Answers may old x.event x.written new
 
   -- What a session did for bytes: its exchanges, one after another. The bytes that were unread and those that came are

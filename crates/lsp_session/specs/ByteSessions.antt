@@ -1,5 +1,5 @@
 -- A session between bytes and bytes, as contracts see it.
-use Rattle.std.specs.Prelude.{◌≡◌, ◌⊎◌, ℕ, List, [], Option, Some, None}
+use Rattle.std.specs.Prelude.{◌≡◌, ◌⊎◌, ◌<◌, ℕ, List, [], length, Option, Some, None}
 use Rattle.lsp_message.specs.declared.frame.limits.Limits.{Limits}
 use Rattle.lsp_session.specs.ByteSession.{AwaitsMore, IsEndOf, Standing, StopsOtherwise}
 use Rattle.lsp_session.specs.PendingOutput.{waiting}
@@ -11,10 +11,11 @@ use Rattle.lsp_session.specs.declared.loops.byte_session.ByteSession.{ByteSessio
 use Rattle.lsp_session.specs.declared.loops.machine.Stage.{Stage}
 
 -- Of a session in this stage, with these bytes unread: this ended the messages, and the session with them, or nothing
--- did. A want of memory is no fact of the bytes.
+-- did. Where memory ran out, more bytes of the first message have to come.
 abbrev pub EndIsKnown : Limits → List ℕ → Stage → Option ReadEnd → Type 0
 EndIsKnown limits text stage None = StopsOtherwise stage
-EndIsKnown limits text stage (Some end) = IsOver stage × (IsEndOf limits text end ⊎ (end ≡ AtFault Memory))
+EndIsKnown limits text stage (Some end) = IsOver stage
+    × (IsEndOf limits text end ⊎ ((end ≡ AtFault Memory) × AwaitsMore limits text))
 
 module _ {S : Type 0} where
   -- where the session stands
@@ -39,6 +40,11 @@ module _ {S : Type 0} where
   -- served was the last that it took bytes of.
   abbrev pub EndsAtFrame : ByteSession S → Type 0
   EndsAtFrame b = IsOver b.core.stage → b.end ≡ None → unread b ≡ []
+
+  -- While more bytes are pending than the bound allows, no byte is unread: the session takes none after the frame of a
+  -- message for which it has to send so much.
+  abbrev pub PausesAtFrame : ByteSession S → Type 0
+  PausesAtFrame b = b.most_pending < length (standing b).pending → unread b ≡ []
 
   -- the bounds stay
   abbrev pub KeepsBounds : ByteSession S → ByteSession S → Type 0

@@ -6,6 +6,7 @@ use Rattle.lsp_message.specs.Frame.{reading_within, header_under}
 use Rattle.lsp_message.specs.Front.{front_of, at_header_end}
 use Rattle.lsp_message.specs.HeaderPart.{lines, fields, after_fields, content_length, or_else}
 use Rattle.lsp_message.specs.declared.frame.ReadFault.{ReadFault}
+use Rattle.lsp_message.specs.declared.frame.ReadFault.TheVariants.{Memory}
 use Rattle.lsp_message.specs.declared.frame.limits.Limits.{Limits}
 use Rattle.lsp_session.specs.declared.loops.frame_input.Place.{Place}
 use Rattle.lsp_session.specs.declared.loops.frame_input.Place.TheVariants.{Header, Content, Fault}
@@ -46,9 +47,11 @@ pub record InContent (limits : Limits) (text : List ℕ) (start size : ℕ) : Ty
   pub short : length text < start + size
   pub header : IsHeader limits size (take start text)
 
--- the text begins with this fault
-abbrev pub IsFaultOf : Limits → List ℕ → ReadFault → Type 0
-IsFaultOf limits text fault = result_err (reading_within limits text).outcome ≡ Some fault
+-- The text is what a reader takes to find this fault of its bytes. Whatever follows the text is left.
+pub record IsFaultOf (limits : Limits) (text : List ℕ) (fault : ReadFault) : Type 0 where
+  pub of_bytes : fault ≢ Memory
+  pub answer : (more : List ℕ) → result_err (reading_within limits (text ++ more)).outcome ≡ Some fault
+  pub left : (more : List ℕ) → (reading_within limits (text ++ more)).rest ≡ more
 
 -- the text has reached this place, and more of the frame has to come
 abbrev pub IsPlaceOf : Limits → List ℕ → Place → Type 0

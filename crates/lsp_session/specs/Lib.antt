@@ -34,6 +34,7 @@ pub mod Session
 pub mod SessionBytes
 pub mod SessionFault
 pub mod SessionLaws
+pub mod SessionRounds
 pub mod SessionRun
 pub mod Shutdown
 pub mod Start

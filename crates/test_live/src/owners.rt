@@ -36,18 +36,20 @@ pub fn parted<R: Threads + Wait>(
         }
         _ => {}
     }
-    let most = passed_back(rt, run, &sender, &receiver, signals);
+    let most = passed_back(rt, run, &sender, &receiver, &threads, signals);
     drop(receiver);
     drop(sender);
     (most, threads.flush(rt).join(rt))
 }
 
-/// Does what is to be done before the connection is dropped: each message is sent back, or none.
+/// Does what is to be done before the connection is dropped: each message is sent back, or none. `Over` also drops what
+/// was written.
 fn passed_back<R: Wait>(
     rt: &R,
     run: Run,
     sender: &Sender<Message>,
     receiver: &Receiver<Message>,
+    threads: &IoThreads,
     signals: &Arc<Signals>,
 ) -> usize {
     let most = match run.call {
@@ -56,6 +58,9 @@ fn passed_back<R: Wait>(
     };
     if matches!(run.call, Call::Over | Call::Held) {
         for message in receiver.iter(rt) {
+            if matches!(run.call, Call::Over) {
+                threads.drop_written(rt);
+            }
             drop(sender.send(rt, message));
         }
     }

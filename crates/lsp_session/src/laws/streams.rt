@@ -1,13 +1,11 @@
 //! What the steps of the lifecycle take from a reader, and what they leave in it; and what a session on a transport
 //! reads and writes.
 ghost use Rattle.serde_json.specs.View.{view};
-ghost use Rattle.std.specs.Prelude.{◌≡◌, false, ℕ, List, Option, None, Result, IfSome};
+ghost use Rattle.std.specs.Prelude.{◌≡◌, false, Option, None};
 ghost use Rattle.lsp_message.specs.Frame.{no_limit};
 ghost use Rattle.lsp_message.specs.declared.frame.ReadFault.{ReadFault};
-ghost use Rattle.lsp_message.specs.declared.frame.limits.Limits.{Limits};
 ghost use Rattle.lsp_session.specs.Finish.{FinishesAt};
 ghost use Rattle.lsp_session.specs.Passing.{ended_at_content};
-ghost use Rattle.lsp_session.specs.PassingBytes.{GivesAndTells};
 ghost use Rattle.lsp_session.specs.Prompt.{Talks};
 ghost use Rattle.lsp_session.specs.Replies.{ok_reply};
 ghost use Rattle.lsp_session.specs.SessionOutcome.{StopsFor};
@@ -18,8 +16,6 @@ ghost use Rattle.lsp_session.specs.StreamTransports.{IsUnused, KeepsEnds, GivesI
 ghost use Rattle.lsp_session.specs.Transcripts.{notes_of};
 ghost use Rattle.lsp_session.specs.Streams.{StreamGives};
 ghost use Rattle.lsp_session.specs.declared.loops.ReadEnd.{ReadEnd as ReadEndType};
-ghost use Rattle.lsp_session.specs.declared.loops.handler.SessionEnd.{SessionEnd as EndOfSession};
-ghost use Rattle.lsp_session.specs.declared.loops.stream_session.SessionFault.{SessionFault as FaultOfSession};
 ghost use Rattle.lsp_session.specs.declared.loops.session_outcome.StopReason.{StopReason as Reason};
 ghost use Rattle.lsp_session.specs.declared.loops.stream_transport.StreamTransport.{StreamTransport as TransportOf};
 
@@ -87,16 +83,6 @@ pub fn transport_tells_its_bytes<R: BufRead, W: Write, L: BadContentPolicy, S: S
         → Serves L.passes (SessionOut S.behavior old new) before
         (session_answer_spec reason answer after.end after.fault) after
         × PassesBetween R.remaining W.contents (notes_of after.transcript.now) before after }
-{}
-
-/// If a reader does not say which bytes it has, as standard input, a file and a socket do not, a clause about its bytes
-/// says nothing: it holds whatever the result is, and whatever was written. So for a program on such a reader only a
-/// transcript says which bytes were read and written (`StreamTransport::serve`).
-pub fn unknown_bytes_say_nothing<L: BadContentPolicy, S: Service>()
-    ensures { (limit : Limits) (old new : S) (left before after : Option (List ℕ)) (first last : L)
-        (answer : Result EndOfSession FaultOfSession)
-        → IfSome None (λ text. GivesAndTells L.passes limit (SessionOut S.behavior old new) text left
-        first last before after answer) }
 {}
 
 /// A session on an unused transport whose policy never ends it, such as `SkipSilently`, reads on after bad content. While it

@@ -1,7 +1,7 @@
 // A session of a server between bytes and bytes.
 ghost use Rattle.std.specs.Prelude.{◌≡◌, ◌≤◌, ◌<◌, ◌⊎◌, [], length, drop as drop_front, take, IsTrue, None, Some, IsSomeAnd};
 ghost use Rattle.lsp_session.specs.ByteSession.{BeginsWithFault, Comes, Goes, IsEndOf};
-ghost use Rattle.lsp_session.specs.ByteSessions.{standing, unread, EndsAtFrame, HasServed, KeepsBounds, KnowsEnd};
+ghost use Rattle.lsp_session.specs.ByteSessions.{standing, unread, EndsAtFrame, HasServed, KeepsBounds, KnowsEnd, PausesAtFrame};
 ghost use Rattle.lsp_session.specs.Event.{closed, timeout, woken};
 ghost use Rattle.lsp_session.specs.Machine.{awaited_in, came_view, outcome_of};
 ghost use Rattle.lsp_session.specs.SessionFault.{session_answer as session_answer_spec};
@@ -105,7 +105,8 @@ impl<S: Service> ByteSession<S> {
     /// in the others again when enough of the output was sent.
     ///
     /// The session takes no other event for bytes. It ends here at its last message, at a fault of the bytes, or
-    /// because memory ran out. If it ends at its last message, it takes no byte after the frame of that message.
+    /// because memory ran out. If it ends at its last message, it takes no byte after the frame of that message. It takes
+    /// none either after the frame of a message for which more than `most_pending` bytes are to be sent.
     pub fn receive(&mut self, bytes: &[u8]) -> usize
         ensures within { result ≤ length bytes.now }
         ensures goes { Goes self.old.input.limits self.old.most_pending S.behavior (standing self.old) (unread self.old)
@@ -113,6 +114,7 @@ impl<S: Service> ByteSession<S> {
         ensures all { (result ≡ length bytes.now) ⊎ IsOver (standing self.new).stage
             ⊎ (self.new.most_pending < length (standing self.new).pending) }
         ensures frame { EndsAtFrame self.old → EndsAtFrame self.new }
+        ensures paused { PausesAtFrame self.old → PausesAtFrame self.new }
         ensures served { HasServed self.old → HasServed self.new }
         ensures known { KnowsEnd self.old → KnowsEnd self.new }
         ensures kept { KeepsBounds self.old self.new }
@@ -133,6 +135,7 @@ impl<S: Service> ByteSession<S> {
         ensures goes { Goes self.old.input.limits self.old.most_pending S.behavior (standing self.old) (unread self.old)
             self.old.end (take result bytes.now) (standing self.new) (unread self.new) self.new.end }
         ensures frame { EndsAtFrame self.new }
+        ensures paused { PausesAtFrame self.new }
         ensures served { HasServed self.new }
         ensures known { KnowsEnd self.old → KnowsEnd self.new }
         ensures kept { KeepsBounds self.old self.new }
@@ -148,11 +151,13 @@ impl<S: Service> ByteSession<S> {
 
     /// Ends the messages with this fault, with which the unread bytes begin.
     fn fail(&mut self, fault: ReadFault)
+        requires room { length (standing self.old).pending ≤ self.old.most_pending }
         requires waits { IsOver (standing self.old).stage → ⊥ }
         requires begins { BeginsWithFault self.old.input.limits (unread self.old) fault }
         ensures goes { Goes self.old.input.limits self.old.most_pending S.behavior (standing self.old) (unread self.old)
             self.old.end [] (standing self.new) (unread self.new) self.new.end }
         ensures ends { self.new.end ≡ Some (Fault fault) }
+        ensures paused { PausesAtFrame self.new }
         ensures known { KnowsEnd self.new }
         ensures over { IsOver (standing self.new).stage }
         ensures kept { KeepsBounds self.old self.new }
@@ -235,6 +240,7 @@ impl<S: Service> ByteSession<S> {
         requires { count ≤ length (standing self.old).pending }
         ensures sent { standing self.new ≡ record (standing self.old) { pending = drop_front count (standing self.old).pending } }
         ensures unread { unread self.new ≡ unread self.old }
+        ensures end { self.new.end ≡ self.old.end }
         ensures served { HasServed self.old → HasServed self.new }
         ensures known { KnowsEnd self.old → KnowsEnd self.new }
         ensures kept { KeepsBounds self.old self.new }

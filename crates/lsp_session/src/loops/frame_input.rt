@@ -1,11 +1,11 @@
 // The frame of one message, gathered from bytes that come in pieces.
 ghost use Rattle.std.specs.Prelude.{◌≡◌, ◌≢◌, ◌⊎◌, ◌<◌, ◌≤◌, ◌+◌, ◌++◌, [], ℕ, Option, length, drop as drop_front, take, Ok, Some, None, IfOk, IfErr, IsTrue, MatchOption};
-ghost use Rattle.lsp_message.specs.Frame.{reading_within};
 ghost use Rattle.lsp_message.specs.View.{message_view};
 ghost use Rattle.lsp_session.specs.ByteSession.{AwaitsMore, IsEndOf, ReadsOne};
 ghost use Rattle.lsp_session.specs.FramePlace.{AreFields, HasNoFeed, InContent, InHeader, IsFaultOf, IsLine, IsPlaceOf};
 ghost use Rattle.lsp_message.specs.declared.frame.ReadFault.{ReadFault};
 ghost use Rattle.lsp_message.specs.declared.frame.ReadFault.TheVariants.{Memory};
+ghost use Rattle.lsp_session.specs.declared.loops.ReadEnd.TheVariants.{End as AtEnd, Fault as AtFault};
 ghost use Rattle.lsp_session.specs.declared.loops.frame_input.Place.TheVariants.{Content, Fault, Header};
 
 use crate::loops::ReadEnd;
@@ -56,8 +56,8 @@ impl FrameInput {
     /// Adds the first bytes of a piece, up to the end of a line of the header part or of the content part. Returns how
     /// many these are, and the message if it is whole with them. The bytes of a message are dropped.
     ///
-    /// After a fault of the bytes they stay, and each further call returns the fault again and adds none. If memory runs
-    /// out, the fault is `Memory`, and nothing was added.
+    /// After a fault of the bytes they stay, and each further call returns the fault again and adds none. They are then
+    /// the bytes that a reader takes to find the fault. If memory runs out, the fault is `Memory`, and nothing was added.
     pub(crate) fn receive(&mut self, piece: &[u8]) -> (usize, Result<Option<Message>, ReadFault>)
         ensures within { result.0 ≤ length piece.now }
         ensures some { IfOk result.1 (λ _. 0 < length piece.now → 0 < result.0) }
@@ -104,6 +104,8 @@ impl FrameInput {
 
     /// Returns how many bytes of the piece belong to the line, up to one byte above the bound of the header part.
     fn header_reach(&self, piece: &[u8]) -> usize
+        ensures bound { (most : ℕ) → self.now.limits.header ≡ Some most → length self.now.bytes.items ≤ most
+            → length self.now.bytes.items + result ≤ most + 1 }
         ensures within { result ≤ length piece.now }
         ensures some { 0 < length piece.now → 0 < result }
         ensures line { HasNoFeed (take result piece.now) ⊎ IsLine (take result piece.now) }
@@ -176,8 +178,8 @@ impl FrameInput {
     /// Returns the fault with which the messages end if no more bytes arrive. There is none at the start of a line of a
     /// header part.
     fn fault_at_end(&self) -> Option<ReadFault>
-        ensures { MatchOption result ((reading_within self.now.limits self.now.bytes.items).outcome ≡ Ok None)
-            (IsFaultOf self.now.limits self.now.bytes.items) }
+        ensures { MatchOption result (IsEndOf self.now.limits self.now.bytes.items AtEnd)
+            (λ fault. IsEndOf self.now.limits self.now.bytes.items (AtFault fault)) }
     {
         match self.place {
             Place::Header(line, _) => {
@@ -215,6 +217,7 @@ fn place_in_header(
     requires begun { line ≤ length bytes.now }
     requires fields { AreFields given (take line bytes.now) }
     requires line { HasNoFeed (drop_front line bytes.now) ⊎ IsLine (drop_front line bytes.now) }
+    requires bound { (most : ℕ) → limits.header ≡ Some most → length bytes.now ≤ most + 1 }
     ensures place { IfOk result (IsPlaceOf limits bytes.now) }
     ensures fault { IfErr result (IsFaultOf limits bytes.now) }
 {

@@ -3,16 +3,17 @@ use Rattle.std.proofs.Common.{drop, Ok, Err, Some}
 use Rattle.std.specs.List.{ends_with}
 use Rattle.lsp_message.specs.HeaderPart.{header_line}
 use Rattle.lsp_message.specs.declared.frame.header.HeaderLine.TheVariants.{Length, Other}
-use Rattle.lsp_session.proofs.FramePlaces.{above_bound, blank_empty, blank_long, blank_place, fault_kept}
-use Rattle.lsp_session.proofs.FramePlaces.{blank_unsized}
+use Rattle.lsp_message.specs.declared.frame.ReadFault.TheVariants.{Memory}
+use Rattle.lsp_message.proofs.KnownLines.{line_tested}
+use Rattle.lsp_session.proofs.FramePlaces.{above_bound, blank_empty, blank_long, blank_place, blank_unsized}
 use Rattle.lsp_session.proofs.FramePlaces.{ended_fault, line_ended, more_fields, next_line, tail_of}
 use Rattle.lsp_session.proofs.loops.frame_input.place_in_header.Goals as goal
 
 pub returns-then-is_above-clause-fault : goal.returns-then-is_above-clause-fault
 returns-then-is_above-clause-fault c =
     let above = c.if-is_above.ensures.above refl in
-    fault_kept c.args.limits c.args.bytes.now _ (above_bound c.args.limits c.args.bytes.now c.args.line
-    c.args.given c.requires.fields c.requires.line above.0 above.1 above.2)
+    above_bound c.args.limits c.args.bytes.now c.args.line c.args.given c.requires.fields c.requires.line above.0
+    above.1 above.2 (c.requires.bound above.0 above.1)
 
 pub returns-in-Err-clause-fault : goal.returns-in-Err-clause-fault
 returns-in-Err-clause-fault c =
@@ -22,9 +23,9 @@ returns-in-Err-clause-fault c =
     ∙ c.if-not-ends_with.false in
     let whole = line_ended tail ends c.requires.line in
     let is = ap header_line (sym (tail_of c.args.line text)) ∙ sym c.header_line.ensures ∙ c.in-Err.is in
-    fault_kept c.args.limits c.args.bytes.now _ (ended_fault c.args.limits text c.args.line c.args.given
-    c.requires.fields whole (Err c.in-Err.fault) is
-    c.in-Err.fault refl (c.if-is_above.ensures.fits (λ e. true≢false (sym e))) refl)
+    let bytes = λ (e : c.in-Err.fault ≡ Memory). line_tested tail (is ∙ ap Err e) in
+    ended_fault c.args.limits text c.args.line c.args.given c.requires.fields whole (Err c.in-Err.fault) is
+    c.in-Err.fault bytes refl (c.if-is_above.ensures.fits (λ e. true≢false (sym e))) refl
 
 pub returns-in-Ok-Length-clause-place : goal.returns-in-Ok-Length-clause-place
 returns-in-Ok-Length-clause-place c =
@@ -62,8 +63,7 @@ returns-in-None-clause-fault c =
     let is = ap header_line (sym (tail_of c.args.line text)) ∙ sym c.header_line.ensures ∙ c.in-Ok-Blank.is
     ∙ ap Ok c.in-Ok-Blank.field-0-is in
     let fits = c.if-is_above.ensures.fits (λ e. true≢false (sym e)) in
-    fault_kept c.args.limits c.args.bytes.now _ (blank_unsized limits text c.args.line c.args.given
-    c.requires.fields whole is fits c.in-None.is)
+    blank_unsized limits text c.args.line c.args.given c.requires.fields whole is fits c.in-None.is
 
 pub returns-in-Some-clause-fault : goal.returns-in-Some-clause-fault
 returns-in-Some-clause-fault c =
@@ -76,9 +76,8 @@ returns-in-Some-clause-fault c =
     let is = ap header_line (sym (tail_of c.args.line text)) ∙ sym c.header_line.ensures ∙ c.in-Ok-Blank.is
     ∙ ap Ok c.in-Ok-Blank.field-0-is in
     let fits = c.if-is_above.ensures.fits (λ e. true≢false (sym e)) in
-    fault_kept c.args.limits c.args.bytes.now _ (blank_long limits text c.args.line c.args.given
-    c.requires.fields whole is fits c.in-Some.size c.in-Some.is
-    (omega (arith, c.if-size-limits.true)))
+    blank_long limits text c.args.line c.args.given c.requires.fields whole is fits c.in-Some.size c.in-Some.is
+    (omega (arith, c.if-size-limits.true))
 
 pub returns-in-Some-eq0-clause-fault : goal.returns-in-Some-eq0-clause-fault
 returns-in-Some-eq0-clause-fault c =
@@ -91,12 +90,11 @@ returns-in-Some-eq0-clause-fault c =
     let is = ap header_line (sym (tail_of c.args.line text)) ∙ sym c.header_line.ensures ∙ c.in-Ok-Blank.is
     ∙ ap Ok c.in-Ok-Blank.field-0-is in
     let fits = c.if-is_above.ensures.fits (λ e. true≢false (sym e)) in
-    fault_kept c.args.limits c.args.bytes.now _ (blank_empty limits text c.args.line c.args.given
-    c.requires.fields whole is fits
+    blank_empty limits text c.args.line c.args.given c.requires.fields whole is fits
     (let none : c.in-Some-eq0.field-0 ≡ 0 = cc (
       c.in-Some-eq0.field-0-is,
       c.in-Some-eq0.field-0-test,
-    ) in c.in-Some-eq0.is ∙ ap Some none))
+    ) in c.in-Some-eq0.is ∙ ap Some none)
 
 pub returns-in-Some-2-clause-place : goal.returns-in-Some-2-clause-place
 returns-in-Some-2-clause-place c =

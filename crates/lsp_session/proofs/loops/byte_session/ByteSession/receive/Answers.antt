@@ -24,6 +24,7 @@ loop-taken-preserved g c =
           (standing new) (unread old) old.end (take r (take (length bytes - n) (drop n bytes))) (unread new) new.end
           before.kept.0 before.kept.1 part.goes);
       frame = λ _. part.frame;
+      paused = λ _. part.paused;
       served = λ _. part.served;
       known = λ first. part.known (before.known first);
       kept = (part.kept.0 ∙ before.kept.0, part.kept.1 ∙ before.kept.1);

@@ -8,6 +8,7 @@ use Rattle.lsp_message.specs.declared.frame.limits.Limits.{Limits}
 use Rattle.lsp_message.specs.declared.msg.Message as msg
 use Rattle.lsp_session.proofs.ByteHistory.{goes_on, goes_kept, goes_message, goes_same, goes_still}
 use Rattle.lsp_session.proofs.MessagesEnd.{ends_at_frame, ends_otherwise, known_open, knows_still}
+use Rattle.lsp_session.proofs.Pausing.{no_pause, pauses_at_frame}
 use Rattle.lsp_session.proofs.Served.{served_after}
 use Rattle.lsp_session.specs.ByteSession.{AwaitsMore, BeginsWithFault, ReadsOne}
 use Rattle.lsp_session.specs.Event.{message}
@@ -141,3 +142,19 @@ fail-requires-clause-begins g c =
 
 pub returns-in-Err-clause-known : goal.returns-in-Err-clause-known
 returns-in-Err-clause-known g c = λ known. c.fail.ensures.known
+
+pub returns-in-Ok-Some-clause-paused : goal.returns-in-Ok-Some-clause-paused
+returns-in-Ok-Some-clause-paused g c =
+    let start = c.args.self.now in
+    let input = c.receive-count.new.self in
+    let text = unread start ++ take c.receive-count.result.0 c.args.bytes.now in
+    let read = subst (λ (r : Result (Option msg.Message) ReadFault). ReadsOne start.input.limits text r
+    input.bytes.items) (c.in-Ok-Some.is ∙ ap Ok c.in-Ok-Some.field-0-is) c.receive-count.ensures.read in
+    pauses_at_frame c.come.new.self input c.come.ensures.input read.1
+
+pub returns-in-Ok-None-clause-paused : goal.returns-in-Ok-None-clause-paused
+returns-in-Ok-None-clause-paused g c = no_pause (record c.args.self.now { input = c.receive-count.new.self })
+    c.requires.room
+
+pub returns-in-Err-clause-paused : goal.returns-in-Err-clause-paused
+returns-in-Err-clause-paused g c = c.fail.ensures.paused

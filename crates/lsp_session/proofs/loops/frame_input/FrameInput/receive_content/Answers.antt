@@ -6,13 +6,13 @@ use Rattle.lsp_message.specs.Frame.{body_means}
 use Rattle.lsp_message.specs.ReadingSteps.{Decodes}
 use Rattle.lsp_message.specs.View.{message_view}
 use Rattle.lsp_message.specs.declared.frame.ReadFault.TheVariants.{Memory}
-use Rattle.lsp_session.specs.ByteSession.{BeginsWithFault, IsFrameRead}
+use Rattle.lsp_session.specs.ByteSession.{AwaitsMore, BeginsWithFault, IsFrameRead}
 use Rattle.lsp_session.specs.FramePlace.{InContent, InHeader, IsFaultOf, IsPlaceOf}
 use Rattle.lsp_session.specs.declared.loops.frame_input.Place.TheVariants.{Header, Content}
 use Rattle.lsp_session.proofs.FramePlaces.{added, at_no_fault, at_start, awaits_at, begins_with, fault_content}
 use Rattle.lsp_session.proofs.FramePlaces.{fault_fault}
 use Rattle.lsp_session.proofs.FramePlaces.{fault_header, in_content, in_header, longer, read_fault, read_message}
-use Rattle.lsp_session.proofs.FramePlaces.{put_back, tail_of}
+use Rattle.lsp_session.proofs.FramePlaces.{kept_whole, memory_ran_out, put_back, tail_of}
 use Rattle.lsp_session.proofs.loops.frame_input.FrameInput.receive_content.Goals as goal
 
 pub invariant_of-self-then-count-missing : goal.invariant_of-self-then-count-missing
@@ -132,8 +132,19 @@ returns-in-Err-clause-read c =
     let now = added c.extend_from_slice.result c.is_err.result old more c.extend_from_slice.new.self.items
     c.is_err.ensures.value c.if-is_err.false c.extend_from_slice.ensures.items in (
       put_back old more _ _ _ now (omega (arith, c.len-length.ensures)) c.truncate.ensures.items ∙ sym (append-nil old),
-      subst (BeginsWithFault self.limits (old ++ [])) (sym (c.if-is_memory.ensures.memory refl)) tt,
+      subst (BeginsWithFault self.limits (old ++ [])) (sym (c.if-is_memory.ensures.memory refl))
+          (subst (AwaitsMore self.limits) (sym (append-nil old)) (awaits_at self.limits old
+          (Content c.args.start c.args.size) (self.content c.args.start c.args.size c.requires.here))),
     )
+
+pub returns-then-is_err-clause-read : goal.returns-then-is_err-clause-read
+returns-then-is_err-clause-read c =
+    let self = c.args.self.now in
+    let old = self.bytes.items in
+    let here = self.content c.args.start c.args.size c.requires.here in
+    let kept = kept_whole c.extend_from_slice.result c.is_err.result old (take c.min-count.result c.args.piece.now)
+    c.extend_from_slice.new.self.items c.is_err.ensures.value c.if-is_err.true c.extend_from_slice.ensures.items in
+    memory_ran_out self.limits old c.extend_from_slice.new.self.items (Content c.args.start c.args.size) here kept
 
 pub invariant_of-self-in-Err-2 : goal.invariant_of-self-in-Err-2
 invariant_of-self-in-Err-2 c =

@@ -1,8 +1,10 @@
-use Rattle.std.proofs.Common.{sym, ap, subst, ◌∙◌, ◌⊎◌, List, ℕ, drop, take}
+use Rattle.std.proofs.Common.{sym, ap, subst, ◌∙◌, ◌⊎◌, ◌+◌, List, ℕ, drop, take, arith, length, length-append}
+use Rattle.std.proofs.Common.{length-take-le}
 use Rattle.std.proofs.lemmas.List.{drop-append-le}
 use Rattle.lsp_session.specs.ByteSession.{AwaitsMore}
 use Rattle.lsp_session.specs.FramePlace.{HasNoFeed, IsLine}
-use Rattle.lsp_session.proofs.FramePlaces.{added, awaits_at, line_joined}
+use Rattle.lsp_session.specs.declared.loops.frame_input.Place.TheVariants.{Header}
+use Rattle.lsp_session.proofs.FramePlaces.{added, awaits_at, kept_whole, line_joined, memory_ran_out}
 use Rattle.lsp_session.proofs.loops.frame_input.FrameInput.receive_header.Goals as goal
 
 pub place_in_header-requires-clause-line : goal.place_in_header-requires-clause-line
@@ -15,6 +17,29 @@ place_in_header-requires-clause-line c =
     subst (λ (l : List ℕ). HasNoFeed l ⊎ IsLine l) (sym (drop-append-le c.args.line old more here.begun)
     ∙ ap (drop c.args.line) (sym now)) (line_joined (drop c.args.line old) more here.unended
     c.header_reach-count.ensures.line)
+
+pub place_in_header-requires-clause-bound : goal.place_in_header-requires-clause-bound
+place_in_header-requires-clause-bound c = λ most is.
+    let old = c.args.self.now.bytes.items in
+    let count = c.header_reach-count.result in
+    let here = c.args.self.now.header c.args.line c.args.given c.requires.here in
+    let now = c.as_slice.ensures.value ∙ added c.extend_from_slice.result c.is_err.result old (take count
+    c.args.piece.now) c.extend_from_slice.new.self.items c.is_err.ensures.value c.if-is_err.false
+    c.extend_from_slice.ensures.items in
+    let grown = ap length now ∙ length-append old (take count c.args.piece.now) ∙ ap (λ n. length old + n)
+    (length-take-le count c.args.piece.now c.header_reach-count.ensures.within) in
+    let room = c.header_reach-count.ensures.bound most is (here.fits most is) in
+    omega (arith, grown, room)
+
+pub returns-then-is_err-clause-read : goal.returns-then-is_err-clause-read
+returns-then-is_err-clause-read c =
+    let self = c.args.self.now in
+    let old = self.bytes.items in
+    let here = self.header c.args.line c.args.given c.requires.here in
+    let kept = kept_whole c.extend_from_slice.result c.is_err.result old (take c.header_reach-count.result
+    c.args.piece.now) c.extend_from_slice.new.self.items c.is_err.ensures.value c.if-is_err.true
+    c.extend_from_slice.ensures.items in
+    memory_ran_out self.limits old c.extend_from_slice.new.self.items (Header c.args.line c.args.given) here kept
 
 pub returns-in-Ok-clause-awaits : goal.returns-in-Ok-clause-awaits
 returns-in-Ok-clause-awaits c = subst (AwaitsMore c.args.self.now.limits) c.as_slice.ensures.value
