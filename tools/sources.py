@@ -24,7 +24,7 @@ USE = re.compile(r"(?m)^ *(?:ghost )?use [^;]*;\n?")
 TACTIC = re.compile(r"(?m)^ *#!?\[tactic\b")
 CHARACTER = r"'(?:\\(?:u\{[^}]*\}|x..|.)|[^\\'])'"
 # (a name of a proof may end in an apostrophe, which begins no character)
-MARKED = re.compile(rf'//[^\n]*|"(?:\\.|[^"\\])*"|\bb{CHARACTER}|(?<![\w\']){CHARACTER}', re.S)
+MARKED = re.compile(rf'//[^\n]*|\br(#+)".*?"\1|"(?:\\.|[^"\\])*"|\bb{CHARACTER}|(?<![\w\']){CHARACTER}', re.S)
 PAIRS = {"(": ")", "[": "]", "{": "}"}
 BRACKET = re.compile(r"[()\[\]{}]")
 

@@ -17,7 +17,7 @@ use crate::sessions::Quiet;
 use lsp_message::RequestId;
 use lsp_session::laws::clients::client_reads_what_was_sent;
 use lsp_session::laws::policies::nothing_is_skipped_in_bytes;
-use lsp_session::laws::streams::{finish_over_reader, unknown_bytes_say_nothing};
+use lsp_session::laws::streams::finish_over_reader;
 use lsp_session::laws::turns::list_is_answered;
 use lsp_session::{
     BadContentPolicy, EndOnBadContent, Handler, HandlerService, ListInbox, ListOutbox, OpenGate,
@@ -84,7 +84,6 @@ pub fn serve_nothing<R: BufRead>(reader: &mut R) -> Result<SessionEnd, SessionFa
         (SessionOut (lent_handler ⟦<Quiet as Handler>⟧.answer_post ⟦<Quiet as Handler>⟧.note_post) old new) text None
         first last None None result) }
 {
-    unknown_bytes_say_nothing::<EndOnBadContent, HandlerService<Quiet>>();
     let _reader = reader;
     Ok(SessionEnd::Closed)
 }
