@@ -58,7 +58,7 @@ where
     T: Host,
 {
     let mut echo = echo;
-    let answered = answer_each(rt, &connection, &mut echo);
+    let answered = answer_each(rt, &connection, &threads, &mut echo);
     drop(connection);
     drop(echo);
     match answered {
@@ -70,12 +70,18 @@ where
     }
 }
 
-fn answer_each<T>(rt: &T, connection: &Connection, echo: &mut Echo) -> Result<()>
+fn answer_each<T>(
+    rt: &T,
+    connection: &Connection,
+    threads: &IoThreads,
+    echo: &mut Echo,
+) -> Result<()>
 where
     T: Host,
 {
     drop(connection.initialize(rt, Value::Object(Map::new(rt.alloc())))?);
     for message in connection.receiver.iter(rt) {
+        threads.drop_written(rt);
         match message {
             Message::Request(request) => {
                 if answer(rt, connection, request, echo)? {

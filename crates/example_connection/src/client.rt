@@ -58,7 +58,7 @@ where
     R: Threads + Wait + Clock + AllocGlobal + Copy + Drop + Send + 'static,
 {
     let (client, server) = Connection::memory(rt.alloc())?;
-    let thread = spawn(rt, server, |rt, server| serve(&rt, server))?;
+    let thread = spawn(rt, server, |rt, server| serve(&rt, server, None))?;
     let answer = hold_session(rt, &client);
     // The server would wait for more.
     drop(client);

@@ -9,7 +9,7 @@
 mod client;
 
 use anyhow::{Context, Result, bail};
-use lsp_server::{Connection, Message, ReqQueue, Request, Response};
+use lsp_server::{Connection, IoThreads, Message, ReqQueue, Request, Response};
 use serde_json::{Value, json};
 use std::alloc::{AllocError, Global};
 use std::env;
@@ -38,27 +38,36 @@ fn main(rt: HostRuntime) -> Result<()> {
         return client::print_answer(&rt, words.as_slice());
     }
     let (connection, threads) = Connection::stdio(&rt)?;
-    let served = serve(&rt, connection);
+    let served = serve(&rt, connection, Some(&threads));
     let threads = threads.flush(&rt);
     served?;
     threads.join(&rt)?;
     Ok(())
 }
 
-/// Serves a client from `initialize` to `exit`. The connection is dropped at the end, so that its threads end too.
-fn serve<R: Wait + Clock + AllocGlobal>(rt: &R, connection: Connection) -> Result<()> {
-    let served = serve_session(rt, &connection);
+/// Serves a client from `initialize` to `exit`. The connection is dropped at the end, so that its threads end too. A
+/// connection in memory has no threads.
+fn serve<R: Wait + Clock + AllocGlobal>(
+    rt: &R,
+    connection: Connection,
+    threads: Option<&IoThreads>,
+) -> Result<()> {
+    let served = serve_session(rt, &connection, threads);
     drop(connection);
     served
 }
 
-fn serve_session<R: Wait + Clock + AllocGlobal>(rt: &R, connection: &Connection) -> Result<()> {
+fn serve_session<R: Wait + Clock + AllocGlobal>(
+    rt: &R,
+    connection: &Connection,
+    threads: Option<&IoThreads>,
+) -> Result<()> {
     let can_be_asked = begin(rt, connection)?;
     let mut paths = Paths::new(rt.alloc())?;
     if can_be_asked {
         send(rt, connection, Message::from(paths.ask()?))?;
     }
-    serve_messages(rt, connection, &mut paths)
+    serve_messages(rt, connection, threads, &mut paths)
 }
 
 /// Does the handshake. Returns whether the client can be asked for its configuration.
@@ -73,9 +82,13 @@ fn begin<R: Wait + Clock + AllocGlobal>(rt: &R, connection: &Connection) -> Resu
 fn serve_messages<R: Wait + Clock + AllocGlobal>(
     rt: &R,
     connection: &Connection,
+    threads: Option<&IoThreads>,
     paths: &mut Paths,
 ) -> Result<()> {
     for message in connection.receiver.iter(rt) {
+        if let Some(threads) = threads {
+            threads.drop_written(rt);
+        }
         match message {
             Message::Request(request) => {
                 if connection.handle_shutdown(rt, &request)? {

@@ -264,6 +264,9 @@ impl Connection {
     /// <!-- from crates/example_connection/src/main.rt -->
     /// ```rust
     /// for message in connection.receiver.iter(rt) {
+    ///     if let Some(threads) = threads {
+    ///         threads.drop_written(rt);
+    ///     }
     ///     match message {
     ///         Message::Request(request) => {
     ///             if connection.handle_shutdown(rt, &request)? {

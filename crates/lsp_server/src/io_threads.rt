@@ -4,9 +4,11 @@ ghost use Rattle.lsp_server.specs.IoFault.{is_start_fault, reader_answer};
 ghost use Rattle.lsp_server.specs.Joining.{HasEnded, IsEndOf, Joined};
 
 use crate::io_fault::IoFault;
+use crate::spent::{Spent, way_to_maker};
 use crate::writer_end::{WriterEnd, WritesChannel};
 use crate::written::{Returned, Written, channels_of_written, drop_all};
 use crossbeam_channel::{Receiver, Sender, bounded};
+use lsp_message::Message;
 use lsp_session::ReadEnd;
 use std::alloc::Global;
 use std::sync::Wait;
@@ -23,6 +25,7 @@ pub struct IoThreads {
     reader: JoinHandle<Result<(), IoFault>>,
     writer: Writer,
     dropper: JoinHandle<()>,
+    spent: Spent<Message>,
 }
 
 /// The thread that writes.
@@ -47,6 +50,24 @@ impl Writer {
 }
 
 impl IoThreads {
+    /// Drops messages that were sent and are written by now, at most four. Call it once for each message that your loop
+    /// takes, on the thread that makes the replies:
+    ///
+    /// <!-- from crates/bench/src/drops.rt -->
+    /// ```rust
+    /// for message in connection.receiver.iter(rt) {
+    ///     threads.drop_written(rt);
+    ///     match message {
+    /// ```
+    ///
+    /// It changes speed and memory only, and doesn't wait. If one thread makes a reply and another one drops it, both
+    /// wait for each other in the C library. After the first call the thread that writes keeps up to four messages that
+    /// this side made for the next call. At most one of them has a frame of more than 8,192 bytes. That thread drops the
+    /// others itself, and before the first call all of them.
+    pub fn drop_written<R: Wait>(&self, rt: &R) {
+        self.spent.drop_waiting(rt);
+    }
+
     /// Waits until everything that was sent is written, or until a write failed. It returns the threads, for `join`.
     ///
     /// Drop the connection first; otherwise the call waits for ever. Call it before a program ends without `join`, for
@@ -56,16 +77,19 @@ impl IoThreads {
         ensures written { HasEnded self.writer result.writer }
         ensures same_reader { result.reader ≡ self.reader }
         ensures same_dropper { result.dropper ≡ self.dropper }
+        ensures same_spent { result.spent ≡ self.spent }
     {
         let IoThreads {
             reader,
             writer,
             dropper,
+            spent,
         } = self;
         IoThreads {
             reader,
             writer: Writer::Ended(writer.join(rt)),
             dropper,
+            spent,
         }
     }
 
@@ -82,33 +106,38 @@ impl IoThreads {
             reader,
             writer,
             dropper,
+            spent,
         } = self;
+        drop(spent);
         reader.join(rt)?;
         dropper.join(rt);
         writer.join(rt).answer
     }
 
     /// Makes the value from the threads that were started.
-    pub(crate) fn of(started: Started<WriterEnd, WritesChannel>) -> IoThreads {
+    pub(crate) fn of(started: Started<Message, WriterEnd, WritesChannel>) -> IoThreads {
         let Started {
             reader,
             writer,
             dropper,
+            spent,
         } = started;
         IoThreads {
             reader,
             writer: Writer::Started(writer),
             dropper,
+            spent,
         }
     }
 }
 
 /// Threads that were started, of which the one that writes keeps a promise.
 #[derive(Drop)]
-pub(crate) struct Started<T: Drop, P: Promise<T>> {
+pub(crate) struct Started<M: Drop, T: Drop, P: Promise<T>> {
     reader: JoinHandle<Result<(), IoFault>>,
     writer: PromisedHandle<T, P>,
     dropper: JoinHandle<()>,
+    spent: Spent<M>,
 }
 
 /// Starts the threads of a connection, in the order writer, dropper, reader, and gives the end at which this side
@@ -126,7 +155,7 @@ pub(crate) fn start_threads<M, T, P, R, F, G>(
     promise: P,
     read: F,
     write: G,
-) -> Result<(Receiver<M>, Started<T, P>), IoFault>
+) -> Result<(Receiver<M>, Started<M, T, P>), IoFault>
 where
     M: Drop + Send + 'static,
     T: Drop + Send + 'static,
@@ -139,7 +168,8 @@ where
     ensures { IfErr result (λ fault. is_start_fault fault ≡ true) }
 {
     let (incoming, receiver) = bounded(alloc, CHANNEL_ROOM)?;
-    let (written, returned, large) = channels_of_written(alloc)?;
+    let (to_maker, spent) = way_to_maker(alloc)?;
+    let (written, returned, large) = channels_of_written(alloc, to_maker)?;
     let theirs = *rt;
     let writing = move || -> T
         requires { G.IsAlwaysCallable write }
@@ -158,6 +188,7 @@ where
         reader,
         writer,
         dropper,
+        spent,
     };
     Ok((receiver, started))
 }

@@ -28,6 +28,7 @@ pub mod services;
 mod serving_thread;
 mod socket;
 mod stdio;
+mod spent;
 mod transport;
 pub mod transports;
 mod unread_weights;

@@ -24,7 +24,7 @@ impl<T> Promise<T> for Anything {
 /// <!-- from crates/example_connection/src/client.rt -->
 /// ```rust
 /// let (client, server) = Connection::memory(rt.alloc())?;
-/// let thread = spawn(rt, server, |rt, server| serve(&rt, server))?;
+/// let thread = spawn(rt, server, |rt, server| serve(&rt, server, None))?;
 /// ```
 ///
 /// It is an error if the system refuses the thread, or if an end of the connection can't be copied. Then `serve` was

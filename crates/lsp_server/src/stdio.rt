@@ -18,7 +18,7 @@ impl Connection {
     /// <!-- from crates/example_connection/src/main.rt -->
     /// ```rust
     /// let (connection, threads) = Connection::stdio(&rt)?;
-    /// let served = serve(&rt, connection);
+    /// let served = serve(&rt, connection, Some(&threads));
     /// let threads = threads.flush(&rt);
     /// served?;
     /// threads.join(&rt)?;

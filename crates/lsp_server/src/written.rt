@@ -1,7 +1,8 @@
 //! Messages that were written, on their way to the thread that drops them. Two threads that allocate and free in one
 //! arena of the C library wait for its lock. So a message that came from the other side, or that has parts which did,
-//! goes back to the reading thread, which allocated it, or to a thread for dropping. The writing thread drops messages
-//! that this side made.
+//! goes back to the reading thread, which allocated it, or to a thread for dropping. Messages that this side made go to
+//! their maker if it asks for them. Otherwise the writing thread drops them.
+use crate::spent::ToMaker;
 use crossbeam_channel::{Receiver, Sender, bounded};
 use lsp_threads::give_back::{GiveBack, GivenBack, way_back};
 use std::alloc::{AllocError, Global};
@@ -22,17 +23,19 @@ const SMALL_FRAME: usize = 8192;
 #[derive(Drop)]
 pub(crate) struct Written<M: Drop> {
     back: GiveBack<M>,
+    to_maker: ToMaker<M>,
     to_dropper: Sender<M>,
     last_read: Arc<AtomicUsize>,
 }
 
 impl<M: Drop> Written<M> {
-    /// Lets a message go whose frame has `frame_length` bytes. A message that this side made is dropped here, before
-    /// the frame is written: its maker may wait for the peer's next message meanwhile, and allocates nothing then.
+    /// Lets a message go whose frame has `frame_length` bytes, before the frame is written. If this side made it, its
+    /// maker may wait for the peer's next message meanwhile, and allocates nothing then.
     pub(crate) fn let_go<R: Wait>(&self, rt: &R, message: M, frame_length: usize) {
+        let is_large = frame_length > SMALL_FRAME;
         if self.is_made_here(frame_length) {
-            drop(message);
-        } else if frame_length > SMALL_FRAME {
+            self.to_maker.let_go(rt, message, is_large);
+        } else if is_large {
             self.let_large_go(rt, message);
         } else {
             self.back.give_or_drop(rt, message);
@@ -77,16 +80,18 @@ impl<M: Drop> Returned<M> {
     }
 }
 
-/// Makes the channel for messages that are written, and its two ends: that of the reading thread, and that of the
-/// thread that drops large messages.
+/// Makes the channels for messages that are written, and their ends: that of the reading thread, and that of the thread
+/// that drops large messages. Messages that this side made go to `to_maker`.
 pub(crate) fn channels_of_written<M: Drop>(
     alloc: Global,
+    to_maker: ToMaker<M>,
 ) -> Result<(Written<M>, Returned<M>, Receiver<M>), AllocError> {
     let (to_reader, back) = way_back(alloc, WRITTEN_ROOM)?;
     let (to_dropper, large) = bounded(alloc, LARGE_ROOM)?;
     let last_read = Arc::new(alloc, AtomicUsize::new(0))?;
     let written = Written {
         back: to_reader,
+        to_maker,
         to_dropper,
         last_read: last_read.clone()?,
     };
