@@ -3,12 +3,16 @@
 client is served. Some clients connect and close, send no message, reset, leave without `shutdown`, or stop in the middle. One connects while
 the program has no descriptors, and one reads late while the program is stopped and continued.
 
+One of the servers serves two clients at the same time. Each gets its own replies while the other one stays and is silent, and has texts of
+its own. A third client waits until one of the two is gone.
+
 Then the same servers are started with the arguments of LSP 3.17 ("Implementation Considerations"): over standard input and output, with a
 client that listens at a port or at a socket file, with arguments that are refused, and at addresses where nobody may listen. It ends in
 status 1 at the first difference.
 """
 import json
 import resource
+import select
 import signal
 import socket
 import struct
@@ -25,6 +29,9 @@ from lsp import HOST, INITIALIZE, INITIALIZED, Client, Program, accepted, built,
 
 WAYS = [["example_diagnostics"], ["example_search"], ["example_search", "threads"], ["example_search", "jobs"]]
 LEFT = "the client left without a shutdown"
+# The one that serves two clients at the same time.
+TWO_AT_ONCE = ["example_search", "jobs"]
+NOTE = {"uri": "file:///a.sums"}
 # A descriptor each for standard input, output and error, and for the socket that listens.
 FOR_NO_CLIENT = 4
 
@@ -135,6 +142,51 @@ def goes_without_a_word(server):
     expect("the line of a client that is gone", server.says("it"), LEFT)
 
 
+def holds(client, text):
+    """It opens a text, and the server holds just that."""
+    client.notify("textDocument/didOpen", {"textDocument": {**NOTE, "languageId": "sums", "version": 1, "text": text}})
+    is_held(client, text)
+
+
+def is_held(client, text):
+    expect("the text of a client", client.ask("sums/text", {"textDocument": NOTE})["result"], text)
+
+
+def ends(client):
+    expect("the reply to shutdown", client.ask("shutdown")["result"], None)
+    client.notify("exit")
+    client.rest()
+
+
+def are_served_at_once(way):
+    """Two clients that come and go, and a third for which there is no place at first. One of the two fails its session."""
+    with Listening(way) as server:
+        server.is_used()
+        with server.connect(answers={}) as first, server.connect(answers={}) as second, server.connect(answers={}) as third:
+            begin(first)
+            holds(first, "a = 1\n")
+            begin(second)
+            holds(second, "b = 2\n")
+            third.send(id=1, method="initialize", params={"processId": None, "rootUri": None, "capabilities": {}})
+            for _ in range(100):
+                is_held(second, "b = 2\n")
+                is_held(first, "a = 1\n")
+            expect("whether anything came for a client without a place", bool(select.select([third.source], [], [], 0)[0]), False)
+            ends(second)
+            expect("the id of the reply for the third client", third.message("the reply to initialize")["id"], 1)
+            third.notify("initialized", {})
+            third.last_id = 1
+            holds(third, "c = 3\n")
+            is_held(first, "a = 1\n")
+            third.notify("exit")
+            expect("the line of a client that leaves", server.says("it"), LEFT)
+            with server.connect(answers={}) as fourth:
+                session(fourth)
+            is_held(first, "a = 1\n")
+            ends(first)
+        server.is_used()
+
+
 CLIENTS = [comes_and_goes, sends_no_message, resets, leaves, goes_without_a_word, comes_without_descriptors, reads_late]
 
 
@@ -227,6 +279,8 @@ def check_all():
         for check in [serves_all, is_started_with_stdio, connects_to_a_port, connects_to_a_file, is_refused, can_not_listen]:
             check(way)
             print(" ".join(way), check.__name__.replace("_", " "))
+    are_served_at_once(TWO_AT_ONCE)
+    print(" ".join(TWO_AT_ONCE), "are served at once")
 
 
 if __name__ == "__main__":

@@ -323,7 +323,7 @@ fn main(rt: HostRuntime) -> Answer<()> {
     let alloc: Global = rt.alloc();
     let words: Vec<String> = env::args(&rt)?.skip(1).collect(alloc)?;
     let options = ClientOptions::new();
-    let served = serve_clients(&rt, words.as_slice(), options, |mut client| {
+    let served = serve_clients(&rt, words.as_slice(), options, move |mut client| {
         let mut policy = EndOnBadContent;
         let mut transport = client.transport(alloc, &mut policy);
         let mut application = ServerApplication::new(alloc, Checker::new(alloc));

@@ -15,7 +15,8 @@
 //!
 //! - `threads`: one thread reads, another writes, and the server works between them.
 //! - `jobs`: threads of a pool search, beside the threads that read and write. So the server answers other requests while a search runs. A
-//!   search reports its progress, if the client gave a token for that (`$/progress`), and can be cancelled.
+//!   search reports its progress, if the client gave a token for that (`$/progress`), and can be cancelled. With an address, two clients are
+//!   served at the same time, each with its own server and pool.
 #![tactic(auto)]
 
 mod search;
@@ -32,25 +33,30 @@ use sessions::{serve, serve_in_threads, serve_with_jobs};
 use std::alloc::Global;
 use std::env;
 
+/// How many clients of an address are served at the same time with `jobs`.
+const CLIENTS_AT_ONCE: usize = 2;
+
 fn main(rt: HostRuntime) -> Result<()> {
     let alloc: Global = rt.alloc();
     let words: Vec<String> = env::args(&rt)?.skip(1).collect(alloc)?;
     let served = match words.as_slice() {
         [word, rest @ ..] if word.as_str() == "threads" => {
-            serve_clients(&rt, rest, ClientOptions::new(), |client| {
+            serve_clients(&rt, rest, ClientOptions::new(), move |client| {
                 let mut skipped = SkipAndFlag::new(alloc)?;
                 let sums = Sums::new(alloc, skipped.share()?);
                 end_of(serve_in_threads(&rt, alloc, client, sums, &mut skipped))
             })
         }
         [word, rest @ ..] if word.as_str() == "jobs" => {
-            serve_clients(&rt, rest, ClientOptions::new(), |client| {
+            let mut options = ClientOptions::new();
+            options.at_once = CLIENTS_AT_ONCE;
+            serve_clients(&rt, rest, options, move |client| {
                 let mut skipped = SkipAndFlag::new(alloc)?;
                 let sums = Sums::new(alloc, skipped.share()?);
                 end_of(serve_with_jobs(&rt, alloc, client, sums, &mut skipped))
             })
         }
-        words => serve_clients(&rt, words, ClientOptions::new(), |mut client| {
+        words => serve_clients(&rt, words, ClientOptions::new(), move |mut client| {
             let mut skipped = SkipAndFlag::new(alloc)?;
             let sums = Sums::new(alloc, skipped.share()?);
             let mut transport = client.transport(alloc, &mut skipped);

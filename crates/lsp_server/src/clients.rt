@@ -1,6 +1,7 @@
 //! Serves the clients of a program: the one at standard input and output, one that listens itself, or those that
-//! connect to an address, one after another.
+//! connect to an address, one after another or several at the same time.
 ghost use Rattle.std.specs.Prelude.{◌≡◌, Some, map, IfOk, IfErr, IsErr, IsErrAnd, IsSomeAnd, IsTrue, string_bytes};
+ghost use Rattle.std.specs.Arc.{arc_value};
 ghost use Rattle.std.specs.Duration.{as_nanos};
 ghost use Rattle.std.specs.IoError.{error_kind};
 ghost use Rattle.std.specs.declared.io.ErrorKind.TheVariants.{InvalidInput, OutOfMemory};
@@ -9,6 +10,7 @@ ghost use Rattle.lsp_message.specs.Limits.{most_content};
 ghost use Rattle.lsp_server.specs.Words.{channel_of, standard, refused as asks_in_vain};
 ghost use Rattle.lsp_server.specs.Clients.{medium_of, reader_medium, writer_medium, client_remaining, client_contents, streams, socket as by_socket, file as by_file};
 
+use crate::client_places::ClientPlaces;
 use crate::connection::READ_AHEAD;
 use crate::pipe::PipeStream;
 use crate::socket::{ReadHalf, WriteHalf, halves, keep_alive};
@@ -20,13 +22,17 @@ use std::fmt::Display;
 use std::io::{BufReader, ErrorKind, Read, Write};
 use std::net::{Ipv4Addr, Net, OpenListener, OpenStream, Shutdown, TcpListener, TcpStream};
 use std::os::unix::net::UnixStream;
-use std::sync::Wait;
+use std::sync::{Arc, Wait};
+use std::thread::Threads;
 use std::time::{Clock, Duration};
 use std::{io, thread};
 
 /// How many seconds pass before the next client is accepted after the system refused one. Without a pause, a program
 /// that has no descriptors left would try again without end.
 const PAUSE_SECONDS: u64 = 1;
+
+/// Why a client is refused whose thread did not start.
+const NOT_STARTED: &str = "thread not started";
 
 /// How many seconds a client of an address may be silent at first, if the options do not say otherwise.
 const SILENT_SECONDS: u64 = 30;
@@ -47,15 +53,20 @@ pub struct ClientOptions {
     /// How many bytes a header part and a content part of a client may have. The streams that `serve` receives have
     /// these limits.
     pub limits: Limits,
+    /// How many clients of an address are served at the same time. With 1 or 0 they are served one after another, on
+    /// the thread of the caller. With more, each has its own thread. If so many are being served, the
+    /// next one waits until one of them is gone.
+    pub at_once: usize,
 }
 
 impl ClientOptions {
     /// Returns the default options: half a minute of silence, checks of the client's machine, 64 KiB for a header part,
-    /// and no limit for a content part.
+    /// no limit for a content part, and one client at a time.
     pub fn new() -> ClientOptions
         ensures first_byte_timeout { IsSomeAnd result.first_byte_timeout (λ time. as_nanos time ≡ 30000000000) }
         ensures keep_alive { IsTrue result.keep_alive }
         ensures limits { result.limits ≡ record { header = Some 65536; content = most_content } }
+        ensures at_once { result.at_once ≡ 1 }
     {
         ClientOptions {
             first_byte_timeout: Some(Duration::from_secs(SILENT_SECONDS)),
@@ -64,6 +75,7 @@ impl ClientOptions {
                 header: Some(Limits::HEADER_BYTES),
                 content: u64::MAX,
             },
+            at_once: 1,
         }
     }
 }
@@ -150,7 +162,7 @@ pub type Streams<R> = ClientStreams<BufReader<Sent<R>>, Given<R>>;
 ///   127.0.0.1.
 /// - `--pipe=NAME`: the client listens at this socket file, and the program connects to it.
 /// - an address such as `127.0.0.1:9257`, which is an argument that does not begin with `-`: clients connect to it, one
-///   after another, until the program is stopped.
+///   after another or several at the same time (`ClientOptions::at_once`), until the program is stopped.
 /// - `--node-ipc` is refused: only programs under node can be reached this way.
 ///
 /// If no argument decides, the client is at standard input and output. `--stdio` asks for just that, and is ignored.
@@ -164,7 +176,7 @@ pub type Streams<R> = ClientStreams<BufReader<Sent<R>>, Given<R>>;
 /// <!-- from crates/example_diagnostics/src/main.rt -->
 /// ```rust
 /// let options = ClientOptions::new();
-/// let served = serve_clients(&rt, words.as_slice(), options, |mut client| {
+/// let served = serve_clients(&rt, words.as_slice(), options, move |mut client| {
 ///     let mut policy = EndOnBadContent;
 ///     let mut transport = client.transport(alloc, &mut policy);
 ///     let mut application = ServerApplication::new(alloc, Checker::new(alloc));
@@ -183,10 +195,15 @@ pub type Streams<R> = ClientStreams<BufReader<Sent<R>>, Given<R>>;
 /// system refused, for example because the program has no descriptors left. After such a refusal the program waits for
 /// a second.
 ///
-/// A client that waits for the one before it gets no reply until that one is gone. A client that never sends anything
-/// is given up after `first_byte_timeout`, and one whose machine is gone is found as `keep_alive` says. One that reads nothing, or
+/// A client that waits for its turn gets no reply until another one is gone. A client that never sends anything is given
+/// up after `first_byte_timeout`, and one whose machine is gone is found as `keep_alive` says. One that reads nothing, or
 /// very little, is given up after half a minute. When a session has ended, its client is disconnected. Whoever reaches
 /// the address is served. So if strangers can reach it, limit the content part too.
+///
+/// With `at_once` above 1, several threads call `serve` at the same time. Each client has its own streams. State that
+/// all clients share goes into an `Arc` that `serve` owns. If a thread can't be started, its client is disconnected as
+/// one that the system refused, and the others go on. If there is no memory for what the threads share, the call returns
+/// the error.
 pub fn serve_clients<R, F, E>(
     rt: &R,
     words: &[String],
@@ -194,9 +211,23 @@ pub fn serve_clients<R, F, E>(
     serve: F,
 ) -> io::Result<Result<SessionEnd, E>>
 where
-    R: Net + Wait + Clock + AllocGlobal + Input + Print + Eprint + Copy + Drop,
-    F: Fn(Streams<R>) -> Result<SessionEnd, E> + Drop,
-    E: Display + Drop,
+    R: Net
+        + Threads
+        + Wait
+        + Clock
+        + AllocGlobal
+        + Input
+        + Print
+        + Eprint
+        + Copy
+        + Drop
+        + Send
+        + 'static,
+    R::Listener: Send + 'static,
+    R::Stream: Send + 'static,
+    R::Reader: Send + 'static,
+    F: Fn(Streams<R>) -> Result<SessionEnd, E> + Drop + Send + Sync + 'static,
+    E: Display + Drop + Send + 'static,
     requires { F.IsAlwaysCallable serve }
     ensures outcome { IfOk result (λ outcome.
         (client : _) × F.post serve client outcome
@@ -210,7 +241,7 @@ where
 {
     name_unknown(rt, words);
     let ends = match channel_in(words) {
-        Channel::Address(address) => return serve_socket(rt, address, &options, &serve),
+        Channel::Address(address) => return serve_socket(rt, address, options, serve),
         Channel::Standard => standard_ends(rt),
         Channel::Port(port) => port_ends(rt, port),
         Channel::Pipe(name) => pipe_ends(rt, name),
@@ -284,31 +315,148 @@ where
     Ok((reader, ClientWriter::Pipe(writer)))
 }
 
-/// Serves the clients that connect to an address. It returns only if the program may not listen there.
+/// Serves the clients that connect to an address. It returns only if the program may not listen there, or if there is
+/// no memory.
 fn serve_socket<R, F, E>(
     rt: &R,
     address: &str,
-    options: &ClientOptions,
-    serve: &F,
+    options: ClientOptions,
+    serve: F,
 ) -> io::Result<Result<SessionEnd, E>>
 where
-    R: Net + Wait + Clock + AllocGlobal + Input + Print + Eprint + Copy + Drop,
-    F: Fn(Streams<R>) -> Result<SessionEnd, E>,
-    E: Display + Drop,
-    requires { F.IsAlwaysCallable serve.now }
+    R: Net
+        + Threads
+        + Wait
+        + Clock
+        + AllocGlobal
+        + Input
+        + Print
+        + Eprint
+        + Copy
+        + Drop
+        + Send
+        + 'static,
+    R::Listener: Send + 'static,
+    R::Stream: Send + 'static,
+    R::Reader: Send + 'static,
+    F: Fn(Streams<R>) -> Result<SessionEnd, E> + Drop + Send + Sync + 'static,
+    E: Display + Drop + Send + 'static,
+    requires { F.IsAlwaysCallable serve }
     ensures { IsErr result }
 {
     let listener = TcpListener::bind(rt, address)?;
+    if options.at_once > 1 {
+        return serve_at_once(rt, &listener, options, serve);
+    }
     for _ in rt.forever() {
         match listener.accept() {
-            Ok((stream, _peer)) => serve_stream(rt, stream, options, serve),
-            Err(error) => {
-                let _ = eprintln!(rt; "{error}");
-                thread::sleep(rt, Duration::from_secs(PAUSE_SECONDS));
-            }
+            Ok((stream, _peer)) => serve_stream(rt, stream, &options, &serve),
+            Err(error) => refuse(rt, error),
         }
     }
     unreachable!()
+}
+
+/// What the threads of the clients share.
+#[derive(Drop)]
+struct Shared<F> {
+    options: ClientOptions,
+    serve: F,
+    places: ClientPlaces,
+}
+
+/// Serves each client in its own thread, at most `at_once` at the same time.
+fn serve_at_once<R, F, E>(
+    rt: &R,
+    listener: &R::Listener,
+    options: ClientOptions,
+    serve: F,
+) -> io::Result<Result<SessionEnd, E>>
+where
+    R: Net
+        + Threads
+        + Wait
+        + Clock
+        + AllocGlobal
+        + Input
+        + Print
+        + Eprint
+        + Copy
+        + Drop
+        + Send
+        + 'static,
+    R::Listener: Send + 'static,
+    R::Stream: Send + 'static,
+    R::Reader: Send + 'static,
+    F: Fn(Streams<R>) -> Result<SessionEnd, E> + Drop + Send + Sync + 'static,
+    E: Display + Drop + Send + 'static,
+    requires { F.IsAlwaysCallable serve }
+    ensures { IsErr result }
+{
+    let places = ClientPlaces::new(options.at_once);
+    let shared = Arc::new(
+        rt.alloc(),
+        Shared {
+            options,
+            serve,
+            places,
+        },
+    )?;
+    for _ in rt.forever() {
+        shared.places.take(rt);
+        let started = match listener.accept() {
+            Ok((stream, _peer)) => start_client::<R, F, E>(rt, stream, &shared),
+            Err(error) => Err(error),
+        };
+        if let Err(error) = started {
+            shared.places.give_back(rt);
+            refuse(rt, error);
+        }
+    }
+    unreachable!()
+}
+
+/// Starts the thread of a client. At its end it gives its place back. Nobody joins it: a thread that has ended leaves
+/// nothing.
+fn start_client<R, F, E>(rt: &R, stream: R::Stream, shared: &Arc<Shared<F>>) -> io::Result<()>
+where
+    R: Net
+        + Threads
+        + Wait
+        + Clock
+        + AllocGlobal
+        + Input
+        + Print
+        + Eprint
+        + Copy
+        + Drop
+        + Send
+        + 'static,
+    R::Listener: Send + 'static,
+    R::Stream: Send + 'static,
+    R::Reader: Send + 'static,
+    F: Fn(Streams<R>) -> Result<SessionEnd, E> + Drop + Send + Sync + 'static,
+    E: Display + Drop + Send + 'static,
+    requires { F.IsAlwaysCallable (arc_value shared.now).serve }
+{
+    let theirs = *rt;
+    let shares = shared.clone()?;
+    let work = move || -> ()
+        requires { F.IsAlwaysCallable (arc_value shares).serve }
+    {
+        serve_stream::<R, F, E>(&theirs, stream, &shares.options, &shares.serve);
+        shares.places.give_back(&theirs);
+    };
+    match thread::spawn(rt, work) {
+        Ok(_thread) => Ok(()),
+        Err(_) => Err(io::Error::new(ErrorKind::OutOfMemory, NOT_STARTED)),
+    }
+}
+
+/// Prints why the system refused a client, and waits before the next one.
+fn refuse<R: Clock + Eprint>(rt: &R, error: io::Error) {
+    let _ = eprintln!(rt; "{error}");
+    thread::sleep(rt, Duration::from_secs(PAUSE_SECONDS));
 }
 
 /// Serves the client at the other end of a stream, and prints what went wrong with it.

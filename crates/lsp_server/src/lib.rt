@@ -7,6 +7,7 @@
 #![tactic(auto)]
 
 mod channel_account;
+mod client_places;
 pub mod clients;
 mod connection;
 pub mod dispatch;
@@ -27,8 +28,8 @@ pub mod running;
 pub mod services;
 mod serving_thread;
 mod socket;
-mod stdio;
 mod spent;
+mod stdio;
 mod transport;
 pub mod transports;
 mod unread_weights;
