@@ -7,7 +7,7 @@ its result, and nothing else (LSP 3.17, "Cancellation Support", "Work Done Progr
 
 Then the client opens a document twice, as an editor does whose mode is called again, and has changes refused. The server's text is the
 client's or lost, the server reports why, and each means to bring the text back works. The client saves before it sends its changes, and in
-another session pushes its settings. It ends in status 1 at the first difference.
+another session pushes its settings. Then it searches with `example_search inline`. It ends in status 1 at the first difference.
 """
 import sys
 
@@ -297,6 +297,15 @@ def is_set(program):
         client.leaves()
 
 
+def searches_inline(program):
+    """With `inline` searches run on the session's own thread: a search and its progress come before the hover that follows it."""
+    with started([program, "inline"], listens=True) as client:
+        begin(client)
+        expect("whether the hover is answered first", is_hovered_meanwhile(client), False)
+        finds_what_is_there_now(client)
+        client.leaves()
+
+
 def comes_true(what, tries):
     for number in range(1, ROUNDS + 1):
         if tries():
@@ -328,6 +337,8 @@ def check_all(program):
         client.leaves()
     is_set(program)
     print("settings are taken from a client that can't be asked")
+    searches_inline(program)
+    print("searches run on the session's own thread")
 
 
 if __name__ == "__main__":

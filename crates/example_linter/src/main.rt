@@ -1,8 +1,9 @@
-//! A language server that marks each line with a `NOTE`: `example_linter [--stdio | ADDRESS]`, over standard input and output, or over a
-//! socket, where it serves one client after another.
+//! A language server that marks each line with a `NOTE`: `example_linter [inline] [--stdio | ADDRESS]`, over standard input and output, or
+//! over a socket, where it serves one client after another.
 //!
 //! It keeps each text as the client edits it, a range at a time. Each edit starts an analysis of the whole text after a pause, in a thread of a
-//! pool and in the place of the analysis before. So nobody waits for an analysis, and none of an older text is shown.
+//! pool and in the place of the analysis before. So nobody waits for an analysis, and none of an older text is shown. With the argument
+//! `inline` each analysis runs at once on the session's own thread. Then the output depends on the input alone.
 #![tactic(auto)]
 
 ghost use Rattle.serde_json.specs.View.{view};
@@ -12,7 +13,9 @@ ghost use Rattle.lsp_documents.specs.Held.{documents_of};
 ghost use Rattle.lsp_jobs.specs.JobLaw.{LawfulJobSession};
 ghost use Rattle.lsp_jobs.specs.declared.job_server.JobCommand.{JobCommand as Command};
 ghost use Rattle.lsp_message.specs.Message.{Message, notification as told};
+ghost use Rattle.lsp_acts.specs.ServerApplication.{ServerSession};
 ghost use Rattle.lsp_session.specs.Session.{Exchange, SessionAnswer, Stop};
+ghost use Rattle.lsp_session.specs.StreamTransports.{IsUnused, Serves};
 ghost use Rattle.lsp_threads.specs.Passing.{GivenTo, OfTaken, TakenFrom, noted};
 ghost use Rattle.lsp_threads.specs.Threads.{ThreadsTellOver};
 ghost use Rattle.example_linter.specs.Followed.{act_seen, AreChangesOf, Clears, Follow, IsChangeOf};
@@ -24,15 +27,16 @@ use anyhow::{Result as Answer, bail};
 use lsp_documents::{DocumentSnapshot, SyncOptions, TextDocuments};
 use lsp_jobs::laws::session_with_jobs_keeps_laws;
 use lsp_jobs::{
-    AnsweredBy, Interrupted, Job, JobCommand, JobContext, JobEnd, JobKey, JobName, JobOptions,
-    JobResult, JobServer, KeyedJobs, PoolSize, StatesJobs, run_jobs,
+    AnsweredBy, InlineJobs, Interrupted, Job, JobCommand, JobContext, JobEnd, JobKey, JobName,
+    JobOptions, JobResult, JobServer, KeyedJobs, PoolSize, StatesJobs, run_jobs,
 };
 use lsp_methods::publish;
 use lsp_server::clients::{ClientOptions, serve_clients};
 use lsp_server::policies::{BadContentPolicy, EndOnBadContent};
 use lsp_server::transports::ClientStreams;
 use lsp_server::{
-    Act, Notification, Request, ResponseError, Server, SessionEnd, StartFault, Threaded,
+    Act, Notification, Request, ResponseError, Server, ServerApplication, SessionEnd, SessionFault,
+    StartFault, StreamTransport, Threaded,
 };
 use lsp_text::Text;
 use lsp_types::{Diagnostic, DiagnosticSeverity, Position, Range, ToJson};
@@ -389,24 +393,57 @@ fn marks_are_of_held_texts<T: Wait + Drop>()
         → ShowsOpenTexts exchanges }
 {}
 
+/// A linter whose analyses run on the session's own thread.
+type InlineLinter = InlineJobs<Linter, Analysis>;
+
+/// Serves a client with analyses that run on the session's own thread, each at the message that starts it.
+fn serve_inline<R: BufRead, W: Write>(
+    transport: &mut StreamTransport<'_, R, W, EndOnBadContent>,
+    linter: &mut ServerApplication<InlineLinter, ()>,
+) -> Result<SessionEnd, SessionFault>
+    requires { IsUnused transport.old }
+    ensures { Serves ⟦<EndOnBadContent as BadContentPolicy>⟧.passes
+        (ServerSession ⟦<InlineLinter as Server>⟧ linter.old.server linter.new.server) transport.old result transport.new }
+{
+    transport.serve(linter)
+}
+
 fn main(rt: HostRuntime) -> Answer<()> {
     let alloc: Global = rt.alloc();
     let words: Vec<String> = env::args(&rt)?.skip(1).collect(alloc)?;
-    let served = serve_clients(
-        &rt,
-        words.as_slice(),
-        ClientOptions::new(),
-        |client| -> Answer<SessionEnd> {
-            let (_linter, done) = serve(
+    let served = match words.as_slice() {
+        [word, rest @ ..] if word.as_str() == "inline" => {
+            serve_clients(
                 &rt,
-                alloc,
-                client,
-                Linter::new(alloc),
-                &mut EndOnBadContent,
-            );
-            Ok(done?.answer?)
-        },
-    );
+                rest,
+                ClientOptions::new(),
+                move |mut client| -> Answer<SessionEnd> {
+                    let mut policy = EndOnBadContent;
+                    let mut transport = client.transport(alloc, &mut policy);
+                    let linter = InlineLinter::new(alloc, Linter::new(alloc));
+                    let mut application = ServerApplication::new(alloc, linter);
+                    Ok(serve_inline(&mut transport, &mut application)?)
+                },
+            )
+        }
+        words => {
+            serve_clients(
+                &rt,
+                words,
+                ClientOptions::new(),
+                move |client| -> Answer<SessionEnd> {
+                    let (_linter, done) = serve(
+                        &rt,
+                        alloc,
+                        client,
+                        Linter::new(alloc),
+                        &mut EndOnBadContent,
+                    );
+                    Ok(done?.answer?)
+                },
+            )
+        }
+    };
     match served?? {
         SessionEnd::ShutDown => Ok(()),
         SessionEnd::Closed => bail!("the client left without a shutdown"),

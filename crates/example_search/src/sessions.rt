@@ -1,6 +1,7 @@
 // A session of the server: on one thread, with a thread that reads and one that writes, and with threads that search.
 ghost use Rattle.std.specs.Prelude.{true, List, Option, [], Some, IfOk};
 ghost use Rattle.lsp_message.specs.Message.{Message};
+ghost use Rattle.lsp_acts.specs.ServerApplication.{ServerSession};
 ghost use Rattle.lsp_session.specs.Session.{Exchange, SessionAnswer, Stop};
 ghost use Rattle.lsp_session.specs.StreamTransports.{IsUnused, Serves};
 ghost use Rattle.lsp_threads.specs.Passing.{GivenTo, OfTaken, TakenFrom, noted};
@@ -12,7 +13,7 @@ ghost use Rattle.example_search.specs.Promise.{AnswersOnce, SearchSession};
 use crate::search::Search;
 use crate::server::Sums;
 use lsp_jobs::laws::{requests_are_answered_by_their_jobs, session_with_jobs_keeps_laws};
-use lsp_jobs::{JobOptions, PoolSize, StatesJobs, run_jobs};
+use lsp_jobs::{InlineJobs, JobOptions, PoolSize, StatesJobs, run_jobs};
 use lsp_server::laws::server_keeps_laws;
 use lsp_server::policies::{BadContentPolicy, SkipAndFlag};
 use lsp_server::transports::ClientStreams;
@@ -119,6 +120,21 @@ where
     options.threads.limits = client.limits;
     let (reader, writer) = (client.reader, client.writer);
     run_jobs(rt, alloc, reader, writer, sums, skipped, options)
+}
+
+/// The server whose searches run on the session's own thread.
+pub type InlineSums = InlineJobs<Sums, Search>;
+
+/// Runs a session whose searches run on the session's own thread, each when its request arrives.
+pub fn serve_inline<R: BufRead, W: Write>(
+    transport: &mut StreamTransport<'_, R, W, SkipAndFlag>,
+    sums: &mut ServerApplication<InlineSums, ()>,
+) -> Result<SessionEnd, SessionFault>
+    requires { IsUnused transport.old }
+    ensures { Serves ⟦<SkipAndFlag as BadContentPolicy>⟧.passes
+        (ServerSession ⟦<InlineSums as Server>⟧ sums.old.server sums.new.server) transport.old result transport.new }
+{
+    transport.serve(sums)
 }
 
 /// In a session with jobs, which begins with no documents, each reply at a wake-up is to the last request under its id, which is a search. The

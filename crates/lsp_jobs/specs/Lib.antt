@@ -4,6 +4,7 @@ pub mod Ends
 pub mod JobLaw
 pub mod JobSession
 pub mod KeyedJobLaw
+pub mod Inline
 pub mod Names
 pub mod Outcomes
 pub mod PoolView

@@ -287,7 +287,7 @@ fn was_sent<E: Drop>(sent: Result<(), E>) -> bool {
 }
 
 /// What a job may report, and ask the client, picked for each.
-trait Reportable {
+pub(crate) trait Reportable {
     ghost use Rattle.serde_json.specs.Data.{Data};
     ghost use Rattle.std.specs.Prelude.{ℕ, List};
 

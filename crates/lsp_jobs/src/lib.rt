@@ -5,6 +5,7 @@ mod asking;
 mod cancellation;
 mod channel;
 mod entries;
+mod inline_jobs;
 mod job;
 mod job_server;
 pub mod laws;
@@ -20,6 +21,7 @@ mod waiting_jobs;
 mod workers;
 
 pub use asking::RequestOrigin;
+pub use inline_jobs::InlineJobs;
 pub use job::{DoneJob, Interrupted, Job, JobContext, JobResult};
 pub use job_server::{
     AnsweredBy, JobCommand, JobEnd, JobServer, KeyedJobs, NoKeyedJobs, StatesJobs,

@@ -334,7 +334,7 @@ where
 }
 
 /// Returns the reply to the request of a job with this result, what it found, and how it ended if it found nothing.
-fn parts_of<F: Drop>(
+pub(crate) fn parts_of<F: Drop>(
     alloc: Global,
     ran: Ran<F>,
 ) -> Result<(Result<ResultText, ResponseError>, Option<F>, JobEnd), AllocError>
@@ -355,7 +355,7 @@ fn parts_of<F: Drop>(
 }
 
 /// Adds the reply to the request of a job. A job under a key has none.
-fn push_reply<P: Drop + PartialEq>(
+pub(crate) fn push_reply<P: Drop + PartialEq>(
     acts: &mut Vec<Act<P>>,
     name: JobName,
     outcome: Result<ResultText, ResponseError>,
@@ -400,7 +400,7 @@ fn refusal(alloc: Global) -> Result<ResponseError, AllocError>
 }
 
 /// Makes the error for a request where an allocation failed.
-fn out_of_memory(alloc: Global) -> Result<ResponseError, AllocError>
+pub(crate) fn out_of_memory(alloc: Global) -> Result<ResponseError, AllocError>
     ensures { IfOk result (λ error. error_view error ≡ no_memory) }
 {
     internal_error(alloc, "out of memory")
@@ -469,7 +469,10 @@ fn act_by_server<P: Drop + PartialEq>(act: Act<P>) -> Act<RequestOrigin<P>>
 }
 
 /// Makes a list with this act alone.
-fn one_act<P: Drop + PartialEq>(alloc: Global, act: Act<P>) -> Result<Vec<Act<P>>, AllocError>
+pub(crate) fn one_act<P: Drop + PartialEq>(
+    alloc: Global,
+    act: Act<P>,
+) -> Result<Vec<Act<P>>, AllocError>
     ensures { IfOk result (λ acts. map (act_view P.eq) acts.items ≡ act_view P.eq act ∷ []) }
 {
     let mut acts = Vec::new(alloc);
