@@ -597,6 +597,12 @@ def change_answer(text):
     return [ordered({"edits": [edit] if before != after else []})]
 
 
+def action_answer(text):
+    """LSP 3.17, "CodeAction": its title, its kind and its edit."""
+    given = json.loads(text)
+    return [ordered({"title": given["title"], "kind": given["kind"], "edit": read_as("WorkspaceEdit", given["edit"])})]
+
+
 def report_answer(text):
     """LSP 3.17, "Document Diagnostics": the report `unchanged` if the client has the one with this id."""
     given = json.loads(text)
@@ -650,7 +656,7 @@ def lines_answer(text):
 ROWS = {
     "method": acts_answer, "configuration": configuration_answer, "plain": plain_answers, "typed": typed_answer,
     "uri": uri_answer, "path": path_answer, "names": names_answer, "folders": folders_answer, "tokens": tokens_answer,
-    "change": change_answer, "report": report_answer, "trace": trace_answer, "register": register_answer,
+    "action": action_answer, "change": change_answer, "report": report_answer, "trace": trace_answer, "register": register_answer,
     "offset": offset_answer, "lines": lines_answer,
 }
 # The values of a trace (LSP 3.17, "TraceValue").

@@ -1,6 +1,7 @@
 // Values of types that are made of less than their fields.
 ghost use Rattle.std.specs.Prelude.{◌≡◌};
 
+use crate::actions::CodeAction;
 use crate::capabilities::ServerCapabilities;
 use crate::choices::MarkupKind;
 use crate::edits::{TextEdit, WorkspaceEdit};
@@ -108,5 +109,36 @@ impl WorkspaceEdit {
             document_changes: None,
             change_annotations: None,
         })
+    }
+}
+
+impl CodeAction {
+    ghost use Rattle.std.specs.Prelude.{◌≡◌, None, Some};
+
+    /// Makes an action with this title and this kind (`code_action_kinds`), which makes this edit.
+    pub fn with_edit(title: String, kind: String, edit: WorkspaceEdit) -> CodeAction
+        ensures { result ≡ record {
+          title = title;
+          kind = Some kind;
+          diagnostics = None;
+          is_preferred = None;
+          disabled = None;
+          edit = Some edit;
+          command = None;
+          «data» = None;
+          more = None;
+        } }
+    {
+        CodeAction {
+            title,
+            kind: Some(kind),
+            diagnostics: None,
+            is_preferred: None,
+            disabled: None,
+            edit: Some(edit),
+            command: None,
+            data: None,
+            more: None,
+        }
     }
 }

@@ -9,8 +9,8 @@
 //! - `plain`, `typed`: values that are read and written by a type: one of serde's kinds, or of `lsp_types`. `uri`,
 //!   `path`: a path and its URI. `names`: whether a URI names a path. `tokens`: the numbers of semantic tokens.
 //!   `offset`: the place of a position that was read. `lines`: the lines of a text, and whether there is one more.
-//! - `change`, `report`, `trace`, `register`: what small calls make of an object: the change of semantic tokens, a report
-//!   of diagnostics, a line of a trace, and the registration of watched files.
+//! - `action`, `change`, `report`, `trace`, `register`: what small calls make of an object: a code action, the change of
+//!   semantic tokens, a report of diagnostics, a line of a trace, and the registration of watched files.
 //! - `method`: the acts at a message, by LSP's methods. `configuration`: what a client is asked, and what it sends.
 //! - `document`: a notification about an open document.
 //!

@@ -72,7 +72,9 @@ impl Rows {
             "names" => uris::names(said, rest),
             "folders" => uris::folders(said, rest),
             "tokens" => uris::tokens(said, rest),
-            "change" | "report" | "trace" | "register" => small_calls::made(said, word, rest),
+            "action" | "change" | "report" | "trace" | "register" => small_calls::made(
+                said, word, rest,
+            ),
             "offset" => uris::offset(said, rest),
             "lines" => uris::lines(said, rest),
             "calls" => lists::called(said, rest),

@@ -1,18 +1,18 @@
-// What small calls make: the change from one result of semantic tokens to a later one, the report for a client that has
-// one, traces, and registrations. Each row has an object of JSON.
+// What small calls make: a code action, the change from one result of semantic tokens to a later one, the report for a
+// client that has one, traces, and registrations. Each row has an object of JSON.
 use crate::by_method::say;
 use crate::messages::{text_in, value_in};
 use crate::said::Said;
 use crate::types::{get, say_json};
 use lsp_acts::Act;
 use lsp_methods::{TraceValue, can_watch_files, register, unregister};
-use lsp_types::{InitializeParams, SetTraceParams};
+use lsp_types::{CodeAction, InitializeParams, SetTraceParams, WorkspaceEdit};
 use lsp_types_features::{DocumentDiagnosticReport, SemanticTokensDelta};
 use lsp_types_workspace::DidChangeWatchedFilesRegistrationOptions;
 use serde_json::Value;
 use std::alloc::AllocError;
 
-/// Says what a call makes of a row: `change`, `report`, `trace` or `register`.
+/// Says what a call makes of a row: `action`, `change`, `report`, `trace` or `register`.
 pub fn made(said: &mut Said, word: &str, text: &str) {
     match value_in(said.alloc, text) {
         Ok(found) => {
@@ -25,11 +25,22 @@ pub fn made(said: &mut Said, word: &str, text: &str) {
 
 fn made_of(said: &mut Said, word: &str, found: &Value) {
     match word {
+        "action" => action(said, found),
         "change" => change(said, found),
         "report" => report(said, found),
         "trace" => trace(said, found),
         _ => registration(said, found),
     }
+}
+
+/// Says the code action with this title, this kind and this edit.
+fn action(said: &mut Said, found: &Value) {
+    let title = get(said, found, "title", String::new(said.alloc));
+    let kind = get(said, found, "kind", String::new(said.alloc));
+    let edit = get(said, found, "edit", WorkspaceEdit::default());
+    let action = CodeAction::with_edit(title, kind, edit);
+    say_json(said, &action);
+    drop(action);
 }
 
 /// Says the change from the numbers `before` to those `after`.
