@@ -1,3 +1,4 @@
 mod Answered
+mod Heard
 mod Results
 mod Turns

@@ -4,6 +4,7 @@
 
 mod acts;
 mod dispatch;
+mod documents;
 mod jobs;
 mod links;
 mod messages;
@@ -15,11 +16,24 @@ mod threads;
 
 use anyhow::Result;
 use lsp_text::PositionEncoding;
+use std::alloc::Global;
 
 fn main(rt: HostRuntime) -> Result<()> {
     let alloc = rt.alloc();
     let count = texts::bytes_before(alloc, "é😀", 2, PositionEncoding::Utf16)?;
     println!(&rt; "{count} bytes stand before column 2 of é😀")?;
     let (number, text) = messages::print_beside_text(alloc, 92)?;
-    Ok(println!(&rt; "{number} is no {text}")?)
+    println!(&rt; "{number} is no {text}")?;
+    show_texts(&rt, alloc)
+}
+
+/// Shows two texts that a client has opened.
+fn show_texts<R: Print>(rt: &R, alloc: Global) -> Result<()> {
+    if let Some(text) = documents::opened_text(alloc, "one")? {
+        println!(rt; "a document that is opened with `one` has the text `{text}`")?;
+    }
+    if let Some(text) = documents::changed_text(alloc)? {
+        println!(rt; "once ` two` is added to its end, it has the text `{text}`")?;
+    }
+    Ok(())
 }
