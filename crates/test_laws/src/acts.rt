@@ -24,6 +24,13 @@ pub struct Keeper {
     alloc: Global,
 }
 
+impl Keeper {
+    /// Makes a server that holds no request.
+    pub fn new(alloc: Global) -> Keeper {
+        Keeper { alloc }
+    }
+}
+
 impl Server for Keeper {
     ghost use Rattle.std.specs.Prelude.{◌≡◌, []};
 

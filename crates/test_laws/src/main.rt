@@ -13,10 +13,19 @@ mod sessions;
 mod streams;
 mod texts;
 mod threads;
+mod watched;
 
 use anyhow::Result;
 use lsp_text::PositionEncoding;
 use std::alloc::Global;
+
+/// The messages of a client that asks once, shuts the session down and exits.
+const CLIENT: &str =
+    "Content-Length: 58\r\n\r\n{\"jsonrpc\":\"2.0\",\"id\":1,\"method\":\"initialize\",\"params\":{}}\
+    Content-Length: 52\r\n\r\n{\"jsonrpc\":\"2.0\",\"method\":\"initialized\",\"params\":{}}\
+    Content-Length: 54\r\n\r\n{\"jsonrpc\":\"2.0\",\"id\":2,\"method\":\"textDocument/hover\"}\
+    Content-Length: 44\r\n\r\n{\"jsonrpc\":\"2.0\",\"id\":3,\"method\":\"shutdown\"}\
+    Content-Length: 33\r\n\r\n{\"jsonrpc\":\"2.0\",\"method\":\"exit\"}";
 
 fn main(rt: HostRuntime) -> Result<()> {
     let alloc = rt.alloc();
@@ -24,7 +33,8 @@ fn main(rt: HostRuntime) -> Result<()> {
     println!(&rt; "{count} bytes stand before column 2 of é😀")?;
     let (number, text) = messages::print_beside_text(alloc, 92)?;
     println!(&rt; "{number} is no {text}")?;
-    show_texts(&rt, alloc)
+    show_texts(&rt, alloc)?;
+    show_sessions(&rt, alloc)
 }
 
 /// Shows two texts that a client has opened.
@@ -34,6 +44,17 @@ fn show_texts<R: Print>(rt: &R, alloc: Global) -> Result<()> {
     }
     if let Some(text) = documents::changed_text(alloc)? {
         println!(rt; "once ` two` is added to its end, it has the text `{text}`")?;
+    }
+    Ok(())
+}
+
+/// Shows how two sessions end.
+fn show_sessions<R: Print>(rt: &R, alloc: Global) -> Result<()> {
+    if watched::shuts_down_quiet(alloc, CLIENT) {
+        println!(rt; "a server that answers each request is shut down by its client")?;
+    }
+    if watched::shuts_down_keeper(alloc, CLIENT) {
+        println!(rt; "a server that answers no request is shut down by its client")?;
     }
     Ok(())
 }
