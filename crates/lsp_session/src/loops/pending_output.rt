@@ -43,13 +43,17 @@ impl PendingOutput {
         &self.bytes.as_slice()[self.sent..]
     }
 
-    /// Drops `count` bytes from the front. The bytes after them are moved only when at least as many were sent.
+    /// Drops `count` bytes from the front. The bytes after them are moved only when at least as many were sent. If none
+    /// are left, their memory is freed.
     pub(crate) fn sent(&mut self, count: usize)
         requires { count ≤ length (waiting self.old) }
         ensures { waiting self.new ≡ drop_front count (waiting self.old) }
     {
         let sent = self.sent + count;
-        if sent < self.bytes.len() - sent {
+        if sent == self.bytes.len() {
+            self.bytes = Vec::new(self.alloc);
+            self.sent = 0;
+        } else if sent < self.bytes.len() - sent {
             self.sent = sent;
         } else {
             drop(self.bytes.drain(..sent));
@@ -57,11 +61,15 @@ impl PendingOutput {
         }
     }
 
-    /// Adds a frame. The error means that an allocation failed.
-    fn add(&mut self, frame: &str) -> Result<(), AllocError>
-        ensures ok { result ≡ Ok tt → waiting self.new ≡ waiting self.old ++ frame.now }
+    /// Adds a frame. It is moved if no other bytes are to be sent. The error means that an allocation failed.
+    fn add(&mut self, frame: String) -> Result<(), AllocError>
+        ensures ok { result ≡ Ok tt → waiting self.new ≡ waiting self.old ++ string_bytes frame }
         ensures err { OnErr result (waiting self.new ≡ waiting self.old) }
     {
+        if self.bytes.is_empty() {
+            self.bytes = frame.into_bytes();
+            return Ok(());
+        }
         self.bytes.extend_from_slice(frame.as_bytes())
     }
 
@@ -69,8 +77,7 @@ impl PendingOutput {
     fn add_message(&mut self, message: &Message) -> Result<(), AllocError>
         ensures { AddsFrame (message_view message.now) (waiting self.old) result (waiting self.new) }
     {
-        let frame = message.to_frame(self.alloc)?;
-        self.add(frame.as_str())
+        self.add(message.to_frame(self.alloc)?)
     }
 
     /// Adds the frame of the response with this id and this text as its result. The error means that an allocation
@@ -78,8 +85,7 @@ impl PendingOutput {
     fn add_text(&mut self, id: &RequestId, text: ResultText) -> Result<(), AllocError>
         ensures { AddsFrame (response id.now (Ok (view text))) (waiting self.old) result (waiting self.new) }
     {
-        let frame = text.into_frame(self.alloc, id)?;
-        self.add(frame.as_str())
+        self.add(text.into_frame(self.alloc, id)?)
     }
 }
 
