@@ -1,4 +1,6 @@
 mod Bounds
+mod Facts
+pub mod Failures
 pub mod Choices
 pub mod ContentParts
 pub mod Contents

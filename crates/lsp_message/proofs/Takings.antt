@@ -13,6 +13,11 @@ TakesFront-kept (Some xs) (Some ys) kept = ([], sym kept)
 pub TakesFront-trans : (a b c : Option (List ℕ)) → TakesFront a b → TakesFront b c → TakesFront a c
 TakesFront-trans a b c first second = (_, Consumes-trans a b c _ _ first.1 second.1)
 
+-- nothing was taken
+pub KeepsLine-own : (x : List ℕ) (a : Option (List ℕ)) → KeepsLine x a x a
+KeepsLine-own x None = tt
+KeepsLine-own x (Some xs) = (refl, refl)
+
 pub KeepsLine-trans : (x : List ℕ) (a : Option (List ℕ)) (y : List ℕ) (b : Option (List ℕ)) (z : List ℕ)
     (c : Option (List ℕ))
     → KeepsLine x a y b → KeepsLine y b z c → KeepsLine x a z c

@@ -23,6 +23,10 @@ Takes-none before (Some x) (Some y) kept = record {
       is. absurd (cc (is));
 }
 
+-- the same of a trace whose parts are kept
+pub Takes-kept : (before after : Parts) (a b : Option (List ℕ)) → after ≡ before → Keeps a b → Takes [] before after a b
+Takes-kept before after a b is kept = subst (λ t. Takes [] before t a b) (sym is) (Takes-none before a b kept)
+
 nothing : (part : List ℕ) → is_nothing part ≡ true → part ≡ []
 nothing [] is = refl
 nothing (b ∷ bs) is = absurd (cc (is))

@@ -2,6 +2,7 @@ pub mod Composing
 pub mod Converted
 pub mod ErrorCode
 pub mod Extract
+pub mod Failures
 pub mod Faults
 pub mod Floats
 pub mod Frame

@@ -2,8 +2,11 @@
 use Rattle.std.specs.List.{concat}
 use Rattle.std.specs.Prelude.{◌≡◌, ◌≢◌, ◌⊎◌, ℕ, ◌+◌, true, false, Bool, List, [], ◌∷◌, ◌++◌, length, All, Option, Some}
 use Rattle.std.specs.Prelude.{None, Result, Ok, Err}
+use Rattle.std.specs.declared.io.ErrorKind.TheVariants.{Other}
+use Rattle.lsp_message.specs.Failures.{ReaderFails}
 use Rattle.lsp_message.specs.HeaderPart.{header_line}
 use Rattle.lsp_message.specs.Told.{Parts, shows_end}
+use Rattle.lsp_message.specs.declared.frame.byte_trace.ByteTrace.{ByteTrace}
 use Rattle.lsp_message.specs.declared.frame.header.HeaderLine.{HeaderLine}
 use Rattle.lsp_message.specs.declared.frame.place.InPlace.{InPlace}
 use Rattle.lsp_message.specs.declared.frame.place.InPlace.TheVariants.{Whole, Cut, AtEnd}
@@ -13,6 +16,15 @@ use Rattle.lsp_message.specs.declared.frame.ReadFault.TheVariants.{Input, Memory
 -- what was taken meanwhile is what the room lost
 abbrev pub Spends : Parts → Parts → ℕ → ℕ → Type 0
 Spends before after old new = new + length (concat after) ≡ old + length (concat before)
+
+-- how many bytes and failures a trace has
+abbrev pub noted : ByteTrace → ℕ
+noted trace = length (concat trace.parts) + length trace.failed
+
+-- the call also fails if it has this room left, and needs more
+abbrev pub FailsInRoom : ℕ → Option ReadFault → ByteTrace → ByteTrace → Type 0
+FailsInRoom room fault old new = ReaderFails fault old new
+    ⊎ ((room ≡ 0) × (fault ≡ Some (Input Other)) × ReaderFails None old new)
 
 -- no byte is a line feed
 abbrev pub HasNoFeed : List ℕ → Type 0

@@ -1,9 +1,10 @@
 //! The frames of the base protocol (LSP 3.17, "Base Protocol"): a header part, a blank line and a content part.
-ghost use Rattle.std.specs.Prelude.{◌≡◌, ◌≢◌, ◌⊎◌, Ok, Err};
+ghost use Rattle.std.specs.Prelude.{◌≡◌, ◌≢◌, ◌⊎◌, Ok, Err, [], ◌∷◌, ◌++◌};
 ghost use Rattle.std.specs.IoError.{error_kind};
 ghost use Rattle.std.specs.declared.io.ErrorKind.TheVariants.{Interrupted};
 ghost use Rattle.lsp_message.specs.Faults.{read_fault_number, read_fault_kind, write_fault_number};
 
+use crate::frame::byte_trace::ByteTrace;
 use std::alloc::AllocError;
 use std::error::Error;
 use std::io::ErrorKind;
@@ -131,11 +132,18 @@ impl From<AllocError> for ReadFault {
 }
 
 /// Returns `again` after an interrupted read, so that the caller tries it again. Another failure of the reader is the
-/// fault.
-pub(crate) fn unless_interrupted<T: Copy>(error: io::Error, again: T) -> Result<T, ReadFault>
-    ensures { ((error_kind error ≡ Interrupted) × (result ≡ Ok again))
+/// fault. Each is added to the trace.
+pub(crate) fn unless_interrupted<T: Copy>(
+    error: io::Error,
+    again: T,
+    taken: &mut ByteTrace,
+) -> Result<T, ReadFault>
+    ensures again { ((error_kind error ≡ Interrupted) × (result ≡ Ok again))
         ⊎ ((error_kind error ≢ Interrupted) × (result ≡ Err (ReadFault.Input (error_kind error)))) }
+    ensures taken { taken.new.parts ≡ taken.old.parts }
+    ensures failed { taken.new.failed ≡ taken.old.failed ++ error_kind error ∷ [] }
 {
+    taken.add_failure(&error.kind());
     match error.kind() {
         ErrorKind::Interrupted => Ok(again),
         kind => Err(ReadFault::Input(kind)),

@@ -1,11 +1,13 @@
 // The content part, taken from a reader.
-ghost use Rattle.std.specs.Prelude.{◌≡◌, ◌+◌, ◌<◌, ◌≤◌, length, false, Ok, Err, Some, IfSome, IfOk, IfErr, OnSome, vec_len, vec_capacity};
+ghost use Rattle.std.specs.Prelude.{◌≡◌, ◌+◌, ◌<◌, ◌≤◌, length, true, false, Ok, Err, Some, IfSome, IfOk, IfErr, OnSome, vec_len, vec_capacity};
+ghost use Rattle.std.specs.Result.{result_err};
 ghost use Rattle.std.specs.Io.KnownBytes.{IsAtEnd};
+ghost use Rattle.lsp_message.specs.Failures.{ReaderFails};
 ghost use Rattle.lsp_message.specs.Frame.{body_of};
 ghost use Rattle.lsp_message.specs.Reading.{Answers, found};
 ghost use Rattle.lsp_message.specs.Gathering.{TakesFront, TakesInto, IsFromReader};
 ghost use Rattle.lsp_message.specs.Told.{Told, IsOfParts};
-ghost use Rattle.lsp_message.specs.ToldSteps.{TakesPart};
+ghost use Rattle.lsp_message.specs.ToldSteps.{noted, TakesPart};
 
 use crate::frame::byte_trace::ByteTrace;
 use crate::frame::{ReadFault, unless_interrupted};
@@ -26,10 +28,11 @@ pub(crate) fn read_body<R: BufRead>(
     ensures told { Told (IsOfParts (λ body. body.items) (body_of Ok count) (found result))
         taken.old.parts taken.new.parts (R.remaining reader.old) (R.remaining reader.new) }
     ensures unread { result ≡ Err ReadFault.Memory → reader.new ≡ reader.old }
+    ensures failed { ReaderFails (result_err result) taken.old taken.new }
 {
     let size = count as usize;
     let mut body = Vec::with_capacity(alloc, size)?;
-    for _ in 0..u64::MAX {
+    for _look in 0..u64::MAX {
         let missing = size - body.len();
         if missing == 0 {
             return Ok(body);
@@ -60,10 +63,12 @@ fn take_part<R: BufRead>(
         → OnSome (R.remaining reader.old) (IsAtEnd (R.remaining reader.new)) }
     ensures short { result ≡ Ok false → vec_len body.new ≡ vec_len body.old }
     ensures fault { IfErr result IsFromReader }
+    ensures failed { ReaderFails (result_err result) taken.old taken.new }
+    ensures goes_on { result ≡ Ok true → noted taken.old < noted taken.new }
 {
     let shown = match reader.fill_buf() {
         Ok(shown) => shown,
-        Err(error) => return unless_interrupted(error, true),
+        Err(error) => return unless_interrupted(error, true, taken),
     };
     let count = shown.len().min(missing);
     body.extend_from_slice(&shown[..count]).unwrap();

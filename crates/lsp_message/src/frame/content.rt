@@ -1,5 +1,7 @@
 // The content part of the message at the front of a reader's bytes.
 ghost use Rattle.std.specs.Prelude.{◌≡◌, Err, IfSome};
+ghost use Rattle.std.specs.Result.{result_err};
+ghost use Rattle.lsp_message.specs.Failures.{ReaderFails};
 ghost use Rattle.lsp_message.specs.Frame.{content_within, RunsOutBefore};
 ghost use Rattle.lsp_message.specs.Gathering.{TakesFront};
 ghost use Rattle.lsp_message.specs.Reading.{Answers};
@@ -49,6 +51,7 @@ pub fn read_content_traced<R: BufRead>(
         RunsOutBefore limits text (R.remaining reader.new)) }
     ensures told { Told (IsOfParts (λ content. content.items) (content_within limits) result)
         taken.old.parts taken.new.parts (R.remaining reader.old) (R.remaining reader.new) }
+    ensures failed { ReaderFails (result_err result) taken.old taken.new }
 {
     let limit = limits.content;
     let count = match read_header_within(alloc, reader, limits.header, taken)? {

@@ -1,8 +1,9 @@
 // The lines of the header part, gathered from a reader.
-ghost use Rattle.std.specs.Prelude.{◌≡◌, true, false, Ok, Err, OnOk, OnErr, OnSome, IfErr};
+ghost use Rattle.std.specs.Prelude.{◌≡◌, ◌<◌, true, false, Ok, Err, OnOk, OnErr, OnSome, IfErr};
+ghost use Rattle.std.specs.Result.{result_err};
 ghost use Rattle.lsp_message.specs.Gathering.{TakesFront, IsFromOutside, KeepsLine, EndsLine, LeavesSome, StaysInLine};
 ghost use Rattle.lsp_message.specs.Told.{Told};
-ghost use Rattle.lsp_message.specs.ToldSteps.{GathersLine, GathersSome, Spends};
+ghost use Rattle.lsp_message.specs.ToldSteps.{noted, FailsInRoom, GathersLine, GathersSome, Spends};
 
 use crate::frame::byte_trace::ByteTrace;
 use crate::frame::{ReadFault, unless_interrupted};
@@ -26,8 +27,9 @@ pub(crate) fn gather_line<R: BufRead>(
     ensures told { Told (GathersLine result line.old.items line.new.items) taken.old.parts taken.new.parts
         (R.remaining reader.old) (R.remaining reader.new) }
     ensures spent { Spends taken.old.parts taken.new.parts room.old room.new }
+    ensures failed { FailsInRoom room.new (result_err result) taken.old taken.new }
 {
-    for _ in 0..u64::MAX {
+    for _look in 0..u64::MAX {
         if gather_some(reader, line, room, taken)? {
             return Ok(());
         }
@@ -56,13 +58,15 @@ fn gather_some<R: BufRead>(
     ensures told { Told (GathersSome result line.old.items line.new.items) taken.old.parts taken.new.parts
         (R.remaining reader.old) (R.remaining reader.new) }
     ensures spent { Spends taken.old.parts taken.new.parts room.old room.new }
+    ensures failed { FailsInRoom room.new (result_err result) taken.old taken.new }
+    ensures goes_on { result ≡ Ok false → noted taken.old < noted taken.new }
 {
     if *room == 0 {
         return Err(ReadFault::Input(ErrorKind::Other));
     }
     let shown = match reader.fill_buf() {
         Ok(shown) => shown,
-        Err(error) => return unless_interrupted(error, false),
+        Err(error) => return unless_interrupted(error, false, taken),
     };
     let shown = &shown[..shown.len().min(*room as usize)];
     let (count, is_whole) = match memchr(b'\n', shown) {

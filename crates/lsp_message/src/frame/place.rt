@@ -1,6 +1,8 @@
 // A line of the header part that is tested where the reader shows it.
 ghost use Rattle.std.specs.Prelude.{IfSome};
+ghost use Rattle.std.specs.Result.{result_err};
 ghost use Rattle.lsp_message.specs.ReadingSteps.{AnswersInPlace};
+ghost use Rattle.lsp_message.specs.Failures.{ReaderFails};
 ghost use Rattle.lsp_message.specs.Gathering.{TakesFront};
 ghost use Rattle.lsp_message.specs.Told.{Told};
 ghost use Rattle.lsp_message.specs.ToldSteps.{ReadsInPlace, Spends};
@@ -34,10 +36,11 @@ pub(crate) fn line_in_place<R: BufRead>(
     ensures told { Told (ReadsInPlace result) taken.old.parts taken.new.parts
         (R.remaining reader.old) (R.remaining reader.new) }
     ensures spent { Spends taken.old.parts taken.new.parts room.old room.new }
+    ensures failed { ReaderFails (result_err result) taken.old taken.new }
 {
     let shown = match reader.fill_buf() {
         Ok(shown) => shown,
-        Err(error) => return unless_interrupted(error, InPlace::Cut),
+        Err(error) => return unless_interrupted(error, InPlace::Cut, taken),
     };
     let count = match memchr(b'\n', shown) {
         Some(at) => at + 1,

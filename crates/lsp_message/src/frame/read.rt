@@ -1,11 +1,13 @@
 // The header part, taken from a reader line by line.
 ghost use Rattle.std.specs.Prelude.{◌≡◌, Ok, Some, IfSome};
+ghost use Rattle.std.specs.Result.{result_err};
+ghost use Rattle.lsp_message.specs.Failures.{ReaderFails};
 ghost use Rattle.lsp_message.specs.Gathering.{TakesFront};
 ghost use Rattle.lsp_message.specs.HeaderPart.{at_last_line, header_of};
 ghost use Rattle.lsp_message.specs.Limits.{header_under};
 ghost use Rattle.lsp_message.specs.ReadingSteps.{AnswersHeader, first_line};
 ghost use Rattle.lsp_message.specs.Told.{Told, IsOfParts};
-ghost use Rattle.lsp_message.specs.ToldSteps.{ReadsLine, Spends};
+ghost use Rattle.lsp_message.specs.ToldSteps.{FailsInRoom, ReadsLine, Spends};
 
 use crate::frame::ReadFault;
 use crate::frame::byte_trace::ByteTrace;
@@ -28,6 +30,7 @@ pub(crate) fn read_header_within<R: BufRead>(
     ensures begun { TakesFront (R.remaining reader.old) (R.remaining reader.new) }
     ensures told { Told (IsOfParts (λ n. n) (header_under bound) result) taken.old.parts
         taken.new.parts (R.remaining reader.old) (R.remaining reader.new) }
+    ensures failed { ReaderFails (result_err result) taken.old taken.new }
 {
     match bound {
         Some(most) => read_bounded_header(alloc, reader, most, taken),
@@ -51,6 +54,7 @@ fn read_bounded_header<R: BufRead>(
     ensures begun { TakesFront (R.remaining reader.old) (R.remaining reader.new) }
     ensures told { Told (IsOfParts (λ n. n) (header_under (Some most)) result) taken.old.parts
         taken.new.parts (R.remaining reader.old) (R.remaining reader.new) }
+    ensures failed { ReaderFails (result_err result) taken.old taken.new }
 {
     let all = most.saturating_add(1);
     let mut room = all;
@@ -75,10 +79,11 @@ fn read_header<R: BufRead>(
     ensures told { Told (IsOfParts (λ n. n) header_of result) taken.old.parts taken.new.parts
         (R.remaining reader.old) (R.remaining reader.new) }
     ensures spent { Spends taken.old.parts taken.new.parts room.old room.new }
+    ensures failed { FailsInRoom room.new (result_err result) taken.old taken.new }
 {
     let mut gathered = Vec::new(alloc);
     let mut length = None;
-    for _ in 0..u64::MAX {
+    for _line in 0..u64::MAX {
         let line = match read_line(reader, &mut gathered, room, taken)? {
             Some(line) => line,
             None => return Ok(None),
@@ -116,6 +121,7 @@ fn read_line<R: BufRead>(
     ensures told { Told (ReadsLine result) taken.old.parts taken.new.parts
         (R.remaining reader.old) (R.remaining reader.new) }
     ensures spent { Spends taken.old.parts taken.new.parts room.old room.new }
+    ensures failed { FailsInRoom room.new (result_err result) taken.old taken.new }
 {
     match line_in_place(reader, room, taken)? {
         InPlace::Whole(line) => Ok(Some(line)),
@@ -137,6 +143,7 @@ fn gathered_line<R: BufRead>(
     ensures told { Told (ReadsLine result) taken.old.parts taken.new.parts
         (R.remaining reader.old) (R.remaining reader.new) }
     ensures spent { Spends taken.old.parts taken.new.parts room.old room.new }
+    ensures failed { FailsInRoom room.new (result_err result) taken.old taken.new }
 {
     gathered.clear();
     gather_line(reader, gathered, room, taken)?;

@@ -1,6 +1,8 @@
 // A frame, written to a writer.
 ghost use Rattle.std.specs.Prelude.{◌≡◌, ◌<◌, ◌^◌, length, Err, IfOk, IfErr, OnOk, string_bytes};
+ghost use Rattle.std.specs.Result.{result_err};
 ghost use Rattle.std.specs.Io.KnownBytes.{Appends};
+ghost use Rattle.lsp_message.specs.Failures.{WriterFails};
 ghost use Rattle.lsp_message.specs.Told.{Given, GivesText, WritesText};
 ghost use Rattle.lsp_message.specs.Written.{frame_text, AppendsBeginning, IsOutput};
 
@@ -28,6 +30,7 @@ pub(crate) fn write_body<W: Write>(
     ensures length { OnOk result (length (string_bytes body) < 2 ^ 64) }
     ensures told { Given (WritesText (frame_text (string_bytes body)) result) given.old.parts
         given.new.parts (W.contents writer.old) (W.contents writer.new) }
+    ensures failed { WriterFails (result_err result) given.old given.new }
 {
     let frame = with_header(alloc, body)?;
     write_frames_traced(writer, frame.as_str(), given)
@@ -57,6 +60,7 @@ pub fn write_frames_traced<W: Write>(
     ensures fault { IfErr result IsOutput }
     ensures told { Given (WritesText frames.now result) given.old.parts given.new.parts
         (W.contents writer.old) (W.contents writer.new) }
+    ensures failed { WriterFails (result_err result) given.old given.new }
 {
     write_bytes(writer, frames.as_bytes(), given)?;
     match writer.flush() {
@@ -64,7 +68,10 @@ pub fn write_frames_traced<W: Write>(
             given.add(&[]);
             Ok(())
         }
-        Err(error) => Err(WriteFault::Output(error.kind())),
+        Err(error) => {
+            given.add_failure(&error.kind());
+            Err(WriteFault::Output(error.kind()))
+        }
     }
 }
 
@@ -92,16 +99,23 @@ fn write_bytes<W: Write>(
     ensures fault { IfErr result IsOutput }
     ensures told { Given (GivesText bytes.now result) given.old.parts given.new.parts
         (W.contents writer.old) (W.contents writer.new) }
+    ensures failed { WriterFails (result_err result) given.old given.new }
 {
     let mut rest = bytes;
     while !rest.is_empty() {
         match writer.write(rest) {
-            Ok(0) => return Err(WriteFault::Output(ErrorKind::WriteZero)),
+            Ok(0) => {
+                given.add_failure(&ErrorKind::WriteZero);
+                return Err(WriteFault::Output(ErrorKind::WriteZero));
+            }
             Ok(count) => {
                 given.add(&rest[..count]);
                 rest = &rest[count..];
             }
-            Err(error) => return Err(WriteFault::Output(error.kind())),
+            Err(error) => {
+                given.add_failure(&error.kind());
+                return Err(WriteFault::Output(error.kind()));
+            }
         }
     }
     Ok(())

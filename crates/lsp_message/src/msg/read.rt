@@ -1,8 +1,9 @@
 // Messages, read from a reader and written to a writer.
 ghost use Rattle.std.specs.Prelude.{◌≡◌, ◌≢◌, ◌<◌, ◌≤◌, length, Err, IfOk, IfSome, OnOk, Some, string_bytes};
-ghost use Rattle.std.specs.Result.{result_map_both};
+ghost use Rattle.std.specs.Result.{result_err, result_map_both};
 ghost use Rattle.serde_json.specs.Read.{read as read_json, max_depth};
 ghost use Rattle.serde_json.specs.View.{view};
+ghost use Rattle.lsp_message.specs.Failures.{ReaderFails, WriterFails};
 ghost use Rattle.lsp_message.specs.Frame.{body_means, tree_means, RunsOut, no_limit, of_content, reading_of, reading_within};
 ghost use Rattle.lsp_message.specs.Gathering.{TakesFront};
 ghost use Rattle.lsp_message.specs.Ranges.{nesting};
@@ -88,6 +89,7 @@ impl Message {
             RunsOut limits text (R.remaining reader.new)) }
         ensures told { Told (IsOfParts message_view (reading_within limits) result) taken.old.parts
             taken.new.parts (R.remaining reader.old) (R.remaining reader.new) }
+        ensures failed { ReaderFails (result_err result) taken.old taken.new }
     {
         let content = match read_content_traced(alloc, reader, limits, taken)? {
             Some(content) => content,
@@ -138,6 +140,7 @@ impl Message {
             (W.contents writer.new)) }
         ensures told { Given (WritesParts (message_view self.now) result) given.old.parts
             given.new.parts (W.contents writer.old) (W.contents writer.new) }
+        ensures failed { WriterFails (result_err result) given.old given.new }
     {
         let body = self.body_text(alloc)?;
         write_body(alloc, writer, body, given)

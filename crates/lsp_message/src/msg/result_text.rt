@@ -1,8 +1,10 @@
 // The result of a request while it waits: its text, which takes less memory than its tree.
 ghost use Rattle.std.specs.Prelude.{◌≡◌, ◌≤◌, Ok, Err, IfOk, OnOk, string_bytes};
+ghost use Rattle.std.specs.Result.{result_err};
 ghost use Rattle.serde_json.specs.Data.{depth};
 ghost use Rattle.serde_json.specs.Read.{max_depth};
 ghost use Rattle.serde_json.specs.View.{view};
+ghost use Rattle.lsp_message.specs.Failures.{WriterFails};
 ghost use Rattle.lsp_message.specs.Message.{response};
 ghost use Rattle.lsp_message.specs.Readable.{WritesReadably};
 ghost use Rattle.lsp_message.specs.Text.{IsBodyOf, IsValueText};
@@ -138,6 +140,7 @@ impl ResultText {
             (W.contents writer.new)) }
         ensures told { Given (WritesParts (response id.now (Ok (view self))) result) given.old.parts
             given.new.parts (W.contents writer.old) (W.contents writer.new) }
+        ensures failed { WriterFails (result_err result) given.old given.new }
     {
         let body = self.into_body(alloc, id)?;
         write_body(alloc, writer, body, given)

@@ -15,13 +15,13 @@ returns-clause-told g c = λ rest ends.
     rw c.answer_of.ensures
     (pumped_over c.args.limits (Some (concat back.2.parts ++ rest)) (Some []) _ promise.tx.value back.0
     c.write_texts-rx.result.0.taken back.1 c.write_texts-rx.result.1 (tells.0 rest ends)
-    (rw c.new-given.ensures at c.write_texts-rx.ensures.written) c.settle_all.ensures.settled)
+    (rw c.new-given.ensures.parts at c.write_texts-rx.ensures.written) c.settle_all.ensures.settled)
 
 pub returns-clause-taken : goal.returns-clause-taken
 returns-clause-taken g c = rw c.in-Ok-start_reader.ensures.0 at c.join-tx.ensures.1.1
 
 pub returns-clause-given : goal.returns-clause-given
-returns-clause-given g c = given_whole _ _ _ _ c.new-given.ensures c.write_texts-rx.ensures.given
+returns-clause-given g c = given_whole _ _ _ _ c.new-given.ensures.parts c.write_texts-rx.ensures.given
 
 pub returns-in_default-clause-taken : goal.returns-in_default-clause-taken
 returns-in_default-clause-taken g c = (

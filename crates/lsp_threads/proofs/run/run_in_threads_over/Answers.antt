@@ -13,7 +13,9 @@ returns-in-Ok-clause-passed g c = (
 
 pub returns-in-Ok-clause-session : goal.returns-in-Ok-clause-session
 returns-in-Ok-clause-session g c =
-    told_known _ _ _ _ _ _ _ _ _ _ _ _ (rw (c.in-Ok.ensures.reading.4, c.in-Ok.ensures.reading.5) at
-    c.serve_between.ensures.told)
+    told_known _ _ _ _ _ _ _ _ _ c.serve_between.result.given _ _ (rw (
+      c.in-Ok.ensures.reading.4,
+      c.in-Ok.ensures.reading.5,
+    ) at c.serve_between.ensures.told)
     (rw c.in-Ok.ensures.reading.3 at c.serve_between.ensures.taken) (rw c.in-Ok.ensures.writing.2 at
     c.serve_between.ensures.given)

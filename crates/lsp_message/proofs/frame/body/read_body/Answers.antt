@@ -1,5 +1,6 @@
 use Rattle.std.proofs.Common.{true, false, ◌<◌, List, Err, sym, ap, subst, ◌≡◌, ◌≤◌, length, ℕ, Vec, Global, [], ◌++◌}
-use Rattle.std.proofs.Common.{Ok, arith}
+use Rattle.std.proofs.Common.{◌-◌, ◌^◌, Ok, Some, None, arith}
+use Rattle.lsp_message.proofs.Failures.{fails_own, fails_after, gave_up}
 use Rattle.std.proofs.KnownBytes.{Consumes-nil, Consumes-trans}
 use Rattle.std.proofs.lemmas.Result.{err_from_is_err_and}
 use Rattle.lsp_message.proofs.Suffixes.{body_stops, body_whole, body_fails}
@@ -19,45 +20,45 @@ returns-in_err-body-clause-exact g c =
 
 pub returns-then-missing-eq0-clause-exact : goal.returns-then-missing-eq0-clause-exact
 returns-then-missing-eq0-clause-exact g c =
-    let whole : length c.loop.body.items ≡ c.args.count = omega arith in
-    body_whole (λ body. body.items) c.loop.body c.args.count _ _ c.loop.invariant.taken whole
+    let whole : length c.loop-look.body.items ≡ c.args.count = omega arith in
+    body_whole (λ body. body.items) c.loop-look.body c.args.count _ _ c.loop-look.invariant.taken whole
 
 pub returns-in_err-take_part-clause-exact : goal.returns-in_err-take_part-clause-exact
 returns-in_err-take_part-clause-exact g c =
     let p = err_from_is_err_and c.from_residual-in_err-take_part.result c.from_residual-in_err-take_part.ensures.1 in
     let part = c.in_err-take_part.ensures.part in
-    let taken = Consumes-trans _ _ _ _ _ c.loop.invariant.taken part.2 in
-    let within : length (c.loop.body.items ++ part.0) ≤ c.args.count = rw (← part.1) (omega arith) in
+    let taken = Consumes-trans _ _ _ _ _ c.loop-look.invariant.taken part.2 in
+    let within : length (c.loop-look.body.items ++ part.0) ≤ c.args.count = rw (← part.1) (omega arith) in
     rw (p.1, p.2) (body_fails (λ (body : Vec ℕ Global). body.items) _ c.args.count _ _ _
     c.in_err-take_part.ensures.fault taken within)
 
 pub returns-clause-exact : goal.returns-clause-exact
 returns-clause-exact g c =
-    let within : length c.loop.body.items ≤ c.args.count = omega arith in
-    body_stops Ok c.args.count _ _ _ c.loop.invariant.taken within
+    let within : length c.loop-look.body.items ≤ c.args.count = omega arith in
+    body_stops Ok c.args.count _ _ _ c.loop-look.invariant.taken within
 
 pub returns-in_err-body-clause-begun : goal.returns-in_err-body-clause-begun
 returns-in_err-body-clause-begun g c = (_, Consumes-nil _)
 
 pub returns-then-missing-eq0-clause-begun : goal.returns-then-missing-eq0-clause-begun
-returns-then-missing-eq0-clause-begun g c = (_, c.loop.invariant.taken)
+returns-then-missing-eq0-clause-begun g c = (_, c.loop-look.invariant.taken)
 
 pub returns-in_err-take_part-clause-begun : goal.returns-in_err-take_part-clause-begun
 returns-in_err-take_part-clause-begun g c = (
   _,
-  Consumes-trans _ _ _ _ _ c.loop.invariant.taken
+  Consumes-trans _ _ _ _ _ c.loop-look.invariant.taken
       c.in_err-take_part.ensures.part.2,
 )
 
 pub returns-then-not-branch-clause-begun : goal.returns-then-not-branch-clause-begun
 returns-then-not-branch-clause-begun g c = (
   _,
-  Consumes-trans _ _ _ _ _ c.loop.invariant.taken
+  Consumes-trans _ _ _ _ _ c.loop-look.invariant.taken
       c.in_ok-take_part.ensures.part.2,
 )
 
 pub returns-clause-begun : goal.returns-clause-begun
-returns-clause-begun g c = (_, c.loop.invariant.taken)
+returns-clause-begun g c = (_, c.loop-look.invariant.taken)
 
 abbrev items : Vec ℕ Global → List ℕ
 items body = body.items
@@ -69,8 +70,9 @@ returns-in_err-body-clause-told g c =
 
 pub returns-then-missing-eq0-clause-told : goal.returns-then-missing-eq0-clause-told
 returns-then-missing-eq0-clause-told g c =
-    let whole : length c.loop.body.items ≡ c.args.count = omega arith in
-    Told-map _ _ _ _ _ _ (λ parts is. body_is_whole items c.args.count c.loop.body parts is whole) c.loop.invariant.told
+    let whole : length c.loop-look.body.items ≡ c.args.count = omega arith in
+    Told-map _ _ _ _ _ _ (λ parts is. body_is_whole items c.args.count c.loop-look.body parts is whole)
+    c.loop-look.invariant.told
 
 pub returns-in_err-take_part-clause-told : goal.returns-in_err-take_part-clause-told
 returns-in_err-take_part-clause-told g c =
@@ -82,7 +84,7 @@ returns-in_err-take_part-clause-told g c =
       size,
       ap length is,
     )))
-    (told_body (Err c.in_err-take_part.field-0.0) [] _ _ _ _ _ _ _ _ c.loop.invariant.told
+    (told_body (Err c.in_err-take_part.field-0.0) [] _ _ _ _ _ _ _ _ c.loop-look.invariant.told
     c.in_err-take_part.ensures.told))
 
 pub returns-then-not-branch-clause-told : goal.returns-then-not-branch-clause-told
@@ -95,22 +97,62 @@ returns-then-not-branch-clause-told g c =
     ) in
     Told-map _ _ _ _ _ _ (λ parts is. body_is_short items c.args.count parts (omega (arith, short, ap length is.0))
     is.1)
-    (told_body (Ok false) [] _ _ _ _ _ _ _ _ c.loop.invariant.told (rw (same) at c.in_ok-take_part.ensures.told))
+    (told_body (Ok false) [] _ _ _ _ _ _ _ _ c.loop-look.invariant.told (rw (same) at c.in_ok-take_part.ensures.told))
 
 pub returns-clause-told : goal.returns-clause-told
 returns-clause-told g c =
     Told-map _ _ _ _ _ _ (λ parts is. body_broken items c.args.count (Input Other) parts tt (omega (
       arith,
       ap length is,
-    ))) c.loop.invariant.told
+    ))) c.loop-look.invariant.told
 
-pub loop-preserved : goal.loop-preserved
-loop-preserved g c =
+pub loop-look-preserved : goal.loop-look-preserved
+loop-look-preserved g c =
     let part = c.in_ok-take_part.ensures.part in
     let same : c.in_ok-take_part.field-0 ≡ true = cc in
     record {
-      taken = subst (Consumes _ _) (sym part.1) (Consumes-trans _ _ _ _ _ c.loop.invariant.taken part.2);
+      taken = subst (Consumes _ _) (sym part.1) (Consumes-trans _ _ _ _ _ c.loop-look.invariant.taken part.2);
       within = omega (arith, c.take_part.ensures.fits);
       room = omega (arith, c.take_part.ensures.room_kept);
-      told = told_body (Ok true) [] _ _ _ _ _ _ _ _ c.loop.invariant.told (rw (same) at c.in_ok-take_part.ensures.told);
+      told = told_body (Ok true) [] _ _ _ _ _ _ _ _ c.loop-look.invariant.told (rw (same) at
+          c.in_ok-take_part.ensures.told);
+      failed = fails_after None c.args.taken.now c.loop-look.taken c.take_part.new.taken c.loop-look.invariant.failed
+          c.in_ok-take_part.ensures.failed;
+      tried = omega (arith, c.loop-look.invariant.tried, c.in_ok-take_part.ensures.goes_on (ap Ok same));
     }
+
+pub returns-in_err-body-clause-failed : goal.returns-in_err-body-clause-failed
+returns-in_err-body-clause-failed g c =
+    let p = err_from_is_err_and c.from_residual.result c.from_residual.ensures.1 in
+    rw (p.1, p.2) (fails_own c.args.taken.now)
+
+pub returns-then-missing-eq0-clause-failed : goal.returns-then-missing-eq0-clause-failed
+returns-then-missing-eq0-clause-failed g c = c.loop-look.invariant.failed
+
+pub returns-in_err-take_part-clause-failed : goal.returns-in_err-take_part-clause-failed
+returns-in_err-take_part-clause-failed g c =
+    let p = err_from_is_err_and c.from_residual-in_err-take_part.result c.from_residual-in_err-take_part.ensures.1 in
+    rw (p.1, p.2) (fails_after (Some c.in_err-take_part.field-0.0) c.args.taken.now c.loop-look.taken
+    c.take_part.new.taken
+    c.loop-look.invariant.failed c.in_err-take_part.ensures.failed)
+
+pub returns-then-not-branch-clause-failed : goal.returns-then-not-branch-clause-failed
+returns-then-not-branch-clause-failed g c =
+    fails_after None c.args.taken.now c.loop-look.taken c.take_part.new.taken c.loop-look.invariant.failed
+    c.in_ok-take_part.ensures.failed
+
+pub returns-clause-failed : goal.returns-clause-failed
+returns-clause-failed g c =
+    let all : c.loop-look._look ≡ 2 ^ 64 - 1 = omega arith in
+    gave_up c.args.taken.now c.loop-look.taken (omega (arith, all, c.loop-look.invariant.tried))
+    c.loop-look.invariant.failed
+
+pub loop-look-init : goal.loop-look-init
+loop-look-init g c = record {
+  taken = subst (Consumes _ _) (sym c.in_ok-body.ensures.items) (Consumes-nil _);
+  within = omega (arith, c.in_ok-body.ensures.len);
+  room = omega (arith, c.in_ok-body.ensures.capacity);
+  told = ([], Takes-none _ _ _ (Keeps-refl _), c.in_ok-body.ensures.items);
+  failed = fails_own c.args.taken.now;
+  tried = omega arith;
+}

@@ -1,9 +1,10 @@
 use Rattle.std.proofs.Common.{[], ◌∷◌, ◌≡◌, ◌≤◌, ◌+◌, ◌++◌, length, take, eqb-true, ap, arith, length-append}
-use Rattle.std.proofs.Common.{length-take}
+use Rattle.std.proofs.Common.{length-take, eq-eqb, eqb, not, sym, true, true≢false, ◌∙◌}
 use Rattle.std.proofs.lemmas.Bool.{not-false}
 use Rattle.std.proofs.BufReadLemmas.{Consumes_shown}
+use Rattle.lsp_message.proofs.Failures.{fails_never, fails_once, counts_failure, counts_parts, some_in}
 use Rattle.lsp_message.proofs.Shown.{kept_shown}
-use Rattle.lsp_message.proofs.Told.{Takes-none, Takes-one}
+use Rattle.lsp_message.proofs.Told.{Takes-kept, Takes-one}
 use Rattle.lsp_message.proofs.ToldHeaders.{takes_part, takes_nothing}
 use Rattle.lsp_message.proofs.frame.body.take_part.Given.{Over}
 use Rattle.lsp_message.proofs.frame.body.take_part.Goals as goal
@@ -57,9 +58,9 @@ returns-clause-short g c = λ is.
 pub returns-in-Err-clause-told : goal.returns-in-Err-clause-told
 returns-in-Err-clause-told g c = (
   [],
-  Takes-none _ _ _ c.fill_buf.follows.holds-at-none.0,
+  Takes-kept _ _ _ _ c.unless_interrupted.ensures.taken c.fill_buf.follows.holds-at-none.0,
   takes_nothing _ _ _
-      c.unless_interrupted.ensures,
+      c.unless_interrupted.ensures.again,
 )
 
 pub returns-clause-told : goal.returns-clause-told
@@ -69,7 +70,7 @@ returns-clause-told g c =
     kept.0 kept.1 c.consume.ensures.bytes in
     let size = length-take c.min-count.result c.in-Ok.shown.now in (
       take c.min-count.result c.in-Ok.shown.now ∷ [],
-      Takes-one _ _ _ _ _ c.add.ensures taken.0 (λ none. taken.1 (omega (
+      Takes-one _ _ _ _ _ c.add.ensures.parts taken.0 (λ none. taken.1 (omega (
         arith,
         none,
         size,
@@ -82,3 +83,23 @@ returns-clause-told g c =
         size,
       )) (appended g c),
     )
+
+pub returns-in-Err-clause-failed : goal.returns-in-Err-clause-failed
+returns-in-Err-clause-failed g c = fails_once true _ c.unless_interrupted.result c.args.taken.now
+    c.unless_interrupted.new.taken c.unless_interrupted.ensures.taken c.unless_interrupted.ensures.failed
+    c.unless_interrupted.ensures.again
+
+pub returns-in-Err-clause-goes_on : goal.returns-in-Err-clause-goes_on
+returns-in-Err-clause-goes_on g c = λ is. counts_failure _ c.args.taken.now c.unless_interrupted.new.taken
+    c.unless_interrupted.ensures.taken c.unless_interrupted.ensures.failed
+
+pub returns-clause-failed : goal.returns-clause-failed
+returns-clause-failed g c = fails_never _ c.args.taken.now c.add.new.self c.add.ensures.parts c.add.ensures.failed
+
+pub returns-clause-goes_on : goal.returns-clause-goes_on
+returns-clause-goes_on g c = λ is.
+    let some : not (eqb c.min-count.result 0) ≡ true = cc (is) in
+    let size = length-take c.min-count.result c.in-Ok.shown.now in
+    counts_parts _ c.args.taken.now c.add.new.self c.add.ensures.parts (omega (arith, ap length c.add.ensures.failed))
+    (some_in _ (λ none. let zero : c.min-count.result ≡ 0 = omega (arith, none, size, within g c) in true≢false
+    (sym some ∙ ap not (eq-eqb _ _ zero))))

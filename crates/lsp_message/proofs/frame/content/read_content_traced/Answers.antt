@@ -1,10 +1,11 @@
-use Rattle.std.proofs.Common.{◌≡◌, ℕ, List, Vec, Global, Ok, Err, IfSome, ap, refl, subst, ◌∙◌}
+use Rattle.std.proofs.Common.{◌≡◌, ℕ, List, Vec, Global, Ok, Err, Some, None, IfSome, ap, refl, subst, ◌∙◌}
 use Rattle.std.proofs.lemmas.Result.{err_from_is_err_and}
 use Rattle.lsp_message.specs.ReadingSteps.{AnswersHeader}
 use Rattle.lsp_message.specs.Limits.{header_under}
 use Rattle.lsp_message.specs.declared.frame.ReadFault.TheVariants.{Memory}
 use Rattle.lsp_message.proofs.Contents.{header_refused, content_too_long, content_refused, frame_answered}
 use Rattle.lsp_message.proofs.Contents.{memory_in_header, memory_after_header}
+use Rattle.lsp_message.proofs.Failures.{fails_after}
 use Rattle.lsp_message.proofs.Takings.{TakesFront-trans}
 use Rattle.lsp_message.proofs.ToldLines.{Told-map}
 use Rattle.lsp_message.proofs.ToldHeaders.{Told-trans, told_refused, told_none, told_long, told_content}
@@ -101,3 +102,24 @@ returns-clause-told g c =
     Told-trans _ _ _ _ _ _ _ _ _ (λ ps qs header body. told_content c.args.limits items _ c.if-count-limit.false ps qs
     header c.in_ok-read_body.field-0 body)
     (rw (c.in_ok-count.was, c.in-Some.is) at c.read_header_within.ensures.told) c.in_ok-read_body.ensures.told
+
+pub returns-in_err-count-clause-failed : goal.returns-in_err-count-clause-failed
+returns-in_err-count-clause-failed g c =
+    let p = err_from_is_err_and c.from_residual.result c.from_residual.ensures.1 in
+    rw (p.1, p.2) c.in_err-count.ensures.failed
+
+pub returns-in-None-clause-failed : goal.returns-in-None-clause-failed
+returns-in-None-clause-failed g c = c.in_ok-count.ensures.failed
+
+pub returns-then-count-limit-clause-failed : goal.returns-then-count-limit-clause-failed
+returns-then-count-limit-clause-failed g c = c.in_ok-count.ensures.failed
+
+pub returns-in_err-read_body-clause-failed : goal.returns-in_err-read_body-clause-failed
+returns-in_err-read_body-clause-failed g c =
+    let p = err_from_is_err_and c.from_residual-in_err-read_body.result c.from_residual-in_err-read_body.ensures.1 in
+    rw (p.1, p.2) (fails_after (Some c.in_err-read_body.field-0.0) c.args.taken.now c.read_header_within.new.taken
+    c.read_body.new.taken c.in_ok-count.ensures.failed c.in_err-read_body.ensures.failed)
+
+pub returns-clause-failed : goal.returns-clause-failed
+returns-clause-failed g c = fails_after None c.args.taken.now c.read_header_within.new.taken c.read_body.new.taken
+    c.in_ok-count.ensures.failed c.in_ok-read_body.ensures.failed

@@ -1,8 +1,10 @@
-use Rattle.std.proofs.Common.{◌≡◌, Err, eqb-true, length, sym, ap, subst, ◌∙◌, eq-eqb, true≢false}
+use Rattle.std.proofs.Common.{◌≡◌, inl, Err, eqb-true, length, sym, ap, subst, ◌∙◌, eq-eqb, true≢false}
 use Rattle.std.proofs.lemmas.Result.{err_from_is_err_and}
 use Rattle.lsp_message.specs.Gathering.{EndsLine}
 use Rattle.lsp_message.specs.HeaderPart.{header_line}
+use Rattle.lsp_message.proofs.Failures.{fails_otherwise, room_left}
 use Rattle.lsp_message.proofs.HeaderSteps.{line_read}
+use Rattle.lsp_message.proofs.KnownLines.{line_is_no_input}
 use Rattle.lsp_message.proofs.Suffixes.{line_stops}
 use Rattle.lsp_message.proofs.ToldLines.{Told-map, gathered_parts, line_failed, line_none, line_good, line_bad}
 use Rattle.lsp_message.proofs.frame.read.gathered_line.Goals as goal
@@ -62,3 +64,24 @@ returns-clause-told g c =
     Told-map _ _ _ _ _ _ (λ parts line. line_good _ _ parts (c.in_ok-header_line.ensures
     ∙ ap header_line c.deref.ensures.value) line) (gathered_parts _ _ _ _ _ _ _ c.clear.ensures.items
     c.in_ok-gather_line.ensures.told)
+
+pub returns-in_err-gather_line-clause-failed : goal.returns-in_err-gather_line-clause-failed
+returns-in_err-gather_line-clause-failed g c =
+    let p = err_from_is_err_and c.from_residual.result c.from_residual.ensures.1 in
+    rw (p.1, p.2) c.in_err-gather_line.ensures.failed
+
+pub returns-then-is_empty-clause-failed : goal.returns-then-is_empty-clause-failed
+returns-then-is_empty-clause-failed g c = inl (room_left c.gather_line.new.room c.args.taken.now c.gather_line.new.taken
+    c.in_ok-gather_line.ensures.failed)
+
+pub returns-in_err-header_line-clause-failed : goal.returns-in_err-header_line-clause-failed
+returns-in_err-header_line-clause-failed g c =
+    let p = err_from_is_err_and c.from_residual-in_err-header_line.result c.from_residual-in_err-header_line.ensures.1
+    in
+    rw (p.1, p.2) (inl (fails_otherwise c.in_err-header_line.field-0.0 c.args.taken.now c.gather_line.new.taken (λ kind
+    is. line_is_no_input _ kind (sym c.in_err-header_line.ensures ∙ ap Err is)) (room_left c.gather_line.new.room
+    c.args.taken.now c.gather_line.new.taken c.in_ok-gather_line.ensures.failed)))
+
+pub returns-clause-failed : goal.returns-clause-failed
+returns-clause-failed g c = inl (room_left c.gather_line.new.room c.args.taken.now c.gather_line.new.taken
+    c.in_ok-gather_line.ensures.failed)

@@ -4,6 +4,7 @@ use Rattle.lsp_message.specs.Frame.{body_means}
 use Rattle.lsp_message.specs.ReadingSteps.{Decodes}
 use Rattle.lsp_message.specs.View.{message_view}
 use Rattle.lsp_message.proofs.ContentParts.{decoded, not_read, ran_out_after}
+use Rattle.lsp_message.proofs.Failures.{fails_otherwise, decodes_no_input}
 use Rattle.lsp_message.proofs.ToldLines.{Told-map}
 use Rattle.lsp_message.proofs.ToldHeaders.{told_decoded, told_not_there, told_not_read}
 use Rattle.lsp_message.proofs.msg.Message.read_traced.Goals as goal
@@ -66,3 +67,22 @@ returns-clause-told g c =
     (subst (λ body. Decodes message_view (Ok c.in_ok-from_content.field-0) (body_means body)) c.deref.ensures.value
     c.in_ok-from_content.ensures))
     (rw (c.in_ok-content.was, c.in-Some.is) at c.read_content_traced.ensures.told)
+
+pub returns-in_err-content-clause-failed : goal.returns-in_err-content-clause-failed
+returns-in_err-content-clause-failed g c =
+    let p = err_from_is_err_and c.from_residual.result c.from_residual.ensures.1 in
+    rw (p.1, p.2) c.in_err-content.ensures.failed
+
+pub returns-in-None-clause-failed : goal.returns-in-None-clause-failed
+returns-in-None-clause-failed g c = c.in_ok-content.ensures.failed
+
+pub returns-in_err-from_content-clause-failed : goal.returns-in_err-from_content-clause-failed
+returns-in_err-from_content-clause-failed g c =
+    let p = err_from_is_err_and c.from_residual-in_err-from_content.result c.from_residual-in_err-from_content.ensures.1
+    in
+    rw (p.1, p.2) (fails_otherwise c.in_err-from_content.field-0.0 c.args.taken.now c.read_content_traced.new.taken
+    (decodes_no_input message_view c.in_err-from_content.field-0.0 _ c.in_err-from_content.ensures)
+    c.in_ok-content.ensures.failed)
+
+pub returns-clause-failed : goal.returns-clause-failed
+returns-clause-failed g c = c.in_ok-content.ensures.failed

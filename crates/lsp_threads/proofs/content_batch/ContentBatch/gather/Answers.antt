@@ -8,7 +8,7 @@ invariant_of-self-2 g c =
     let may = subst (λ (f : Gathering). f.closed ≡ false → BeginsAny f.relay.1 (f.contents ++ c.args.content.items ∷ [])
     c.args.taken.now.parts) (sym c.self.view_is) c.requires in (
       c.self.invariant.0,
-      λ still. rw c.so_far-self-inside.ensures (begins_same c.self.inside.tx.source _ _
+      λ still. rw c.so_far-self-inside.ensures.parts (begins_same c.self.inside.tx.source _ _
           c.args.taken.now.parts (bytes_push (contents_of c.self.inside.tx.sent) c.self.inside.pending.items _
           c.args.content c.in_ok-push.ensures.items) (may still)),
     )

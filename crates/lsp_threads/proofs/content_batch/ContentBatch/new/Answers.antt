@@ -8,5 +8,5 @@ pub invariant_of-result : goal.invariant_of-result
 invariant_of-result g c = (
   subst IsOpen (sym c.requires) tt,
   λ still. begins_none c.args.tx.source _ _ (λ i. contents_of (c.requires i)
-      ++ bytes_of (c.new.ensures.items i)) c.new-2.ensures,
+      ++ bytes_of (c.new.ensures.items i)) c.new-2.ensures.parts,
 )

@@ -25,11 +25,12 @@ use denote.Steps.{opens, closes}
 use denote.Triple.Entry.{on_entry}
 use denote.Triple.Spec.{Meets, triple_of}
 use denote.Triple.Table.{entered}
-use denote.Triple.Walked.{says, Stays, stay_ref, walk_of, AllGo, Goes-ref, Walks, ends_at, walked, walk_Meets}
+use denote.Triple.Walked.{says, on_exit, Stays, stay_ref, walk_of, AllGo, Goes-ref, Walks, ends_at, walked, walk_Meets}
 use Rattle.lsp_message.specs.declared.frame.byte_trace.ByteTrace.{ByteTrace}
 use Rattle.lsp_message.specs.contracts.frame.byte_trace.ByteTrace as T
 use Rattle.lsp_message.specs.contracts.frame.byte_trace.ByteTrace.add.Key.{name as #it}
 use Rattle.lsp_message.specs.contracts.frame.byte_trace.ByteTrace.add as it
+use Rattle.lsp_message.proofs.Facts.{and_fact}
 use Rattle.lsp_message.proofs.frame.byte_trace.ByteTrace.add.Statement as stated
 use Rattle.lsp_message.proofs.frame.byte_trace.ByteTrace.add.Code as code
 use denote.Ref.{Bor}
@@ -53,7 +54,7 @@ module _ {M : Type 1} {𝓤 : Ura M} (𝓛 : Logic 𝓤) (at_mem : Memory → SP
   x = (record { ref_ptr = (b, o); ghost_name = γ; now = h }, (s, tt))
 
   abbrev h' : ByteTrace
-  h' = record { marker = h.marker; parts = h.parts ++ s.now ∷ [] }
+  h' = record { marker = h.marker; parts = h.parts ++ s.now ∷ []; failed = h.failed }
 
   abbrev at : List Val × (List Val × Unit {0})
   at = (vptr b o ∷ [], (slice_val s.ref_ptr (length s.now) ∷ [], tt))
@@ -72,7 +73,10 @@ module _ {M : Type 1} {𝓤 : Ura M} (𝓛 : Logic 𝓤) (at_mem : Memory → SP
       suffices ! _ (ends_at 𝓛 it.ended stayed (it.clauses 𝓛 at_mem run) (
         ((κ, (κ', tt)), (q, (q', tt)), tt, x, at),
         tt,
-      ) vunit tt (h', (tt, tt)) (tt, (tt, tt))) $ says ! refl $ move ! (2 ∷ 4 ∷ []) $ join ! $
+      ) vunit tt (h', (tt, tt)) (tt, (tt, tt))) $ suffices ! _ (and_fact 𝓤 (on_exit 𝓛 it.ended stayed (κ, (κ', tt)) (
+        q,
+        (q', tt),
+      ) at vunit tt x (h', (tt, tt))) refl) $ says ! refl $ move ! (2 ∷ 4 ∷ []) $ join ! $
       frame ! $ feq_i ! (List Val) (vptr b o ∷ []) (vptr b o ∷ []) refl $ fjoin3 ! $ fjoin ! $
       feq_i ! (List Val) (vunit ∷ []) (vunit ∷ []) refl $ move ! (1 ∷ 0 ∷ []) $ done !
 

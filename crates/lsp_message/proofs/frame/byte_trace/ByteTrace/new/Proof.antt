@@ -1,4 +1,4 @@
--- `new` makes a value of no bytes, at the empty list.
+-- `new` makes a value of no bytes, at the empty lists.
 use mathlib.Core.Path.{refl}
 use mathlib.Core.List.{[], ◌∷◌}
 use seplogic.Ra.Ura.{Ura}
@@ -20,11 +20,12 @@ use denote.Steps.{nothing}
 use denote.Triple.Entry.{on_entry}
 use denote.Triple.Spec.{Meets, triple_of}
 use denote.Triple.Table.{entered}
-use denote.Triple.Walked.{says, ends_at, walked, walk_Meets}
+use denote.Triple.Walked.{says, on_exit, ends_at, walked, walk_Meets}
 use Rattle.lsp_message.specs.declared.frame.byte_trace.ByteTrace.{ByteTrace}
 use Rattle.lsp_message.specs.contracts.frame.byte_trace.ByteTrace as T
 use Rattle.lsp_message.specs.contracts.frame.byte_trace.ByteTrace.new.Key.{name as #it}
 use Rattle.lsp_message.specs.contracts.frame.byte_trace.ByteTrace.new as it
+use Rattle.lsp_message.proofs.Facts.{and_fact}
 use Rattle.lsp_message.proofs.frame.byte_trace.ByteTrace.new.Statement as stated
 use Rattle.lsp_message.proofs.frame.byte_trace.ByteTrace.new.Code as code
 
@@ -32,7 +33,7 @@ abbrev v : Val
 v = vstruct (vcons (vstruct vnil) vnil)
 
 abbrev r : ByteTrace
-r = record { marker = record {}; parts = [] }
+r = record { marker = record {}; parts = []; failed = [] }
 
 meets : {M : Type 1} {𝓤 : Ura M} (𝓛 : Logic 𝓤) → (at_mem : Memory → SProp 𝓤) (run : Routine → Fun 𝓤) (𝓣 : Tables 𝓤 𝓛.H)
     → Meets 𝓛 it.signature (WpFn 𝓤 𝓛.H 𝓣.C 𝓣.Λ code.function) (it.spec 𝓛 at_mem run)
@@ -54,7 +55,8 @@ meets {𝓤 = 𝓤} 𝓛 at_mem run 𝓣 =
       ),
       tt,
     ) $
-    suffices ! _ (ends_at 𝓛 it.ended tt (it.clauses 𝓛 at_mem run) ((κs, qs, bounds, a, tt), g) v r tt tt) $ says ! refl
+    suffices ! _ (ends_at 𝓛 it.ended tt (it.clauses 𝓛 at_mem run) ((κs, qs, bounds, a, tt), g) v r tt tt) $ suffices !
+    _ (and_fact 𝓤 (on_exit 𝓛 it.ended tt κs qs tt v r a tt) refl) $ says ! refl
     $
     nothing ! $ join ! $ nothing ! $ done !)))
 

@@ -1,4 +1,4 @@
--- `so_far` makes a value of no bytes, at the same list.
+-- `so_far` makes a value of no bytes, at the same lists.
 use Rattle.std.proofs.Common.{List, [], ◌∷◌, ◌++◌, refl}
 use seplogic.Ra.Ura.{Ura}
 use mir.Val.{Val, vptr, vstruct, vcons, vnil}
@@ -24,11 +24,12 @@ use denote.Steps.{nothing}
 use denote.Triple.Entry.{alive}
 use denote.Triple.Spec.{Meets, triple_of}
 use denote.Triple.Table.{entered}
-use denote.Triple.Walked.{says, Stays, stay_dropped, walk_of, ends_at, walk_Meets, Goes-dropped}
+use denote.Triple.Walked.{says, on_exit, Stays, stay_dropped, walk_of, ends_at, walk_Meets, Goes-dropped}
 use Rattle.lsp_message.specs.declared.frame.byte_trace.ByteTrace.{ByteTrace}
 use Rattle.lsp_message.specs.contracts.frame.byte_trace.ByteTrace as T
 use Rattle.lsp_message.specs.contracts.frame.byte_trace.ByteTrace.so_far.Key.{name as #it}
 use Rattle.lsp_message.specs.contracts.frame.byte_trace.ByteTrace.so_far as it
+use Rattle.lsp_message.proofs.Facts.{and_fact}
 use Rattle.lsp_message.proofs.frame.byte_trace.ByteTrace.so_far.Statement as stated
 use Rattle.lsp_message.proofs.frame.byte_trace.ByteTrace.so_far.Code as code
 
@@ -53,7 +54,12 @@ module _ {M : Type 1} {𝓤 : Ura M} (𝓛 : Logic 𝓤) (at_mem : Memory → SP
     walks =
         let a = z.0.3 in
         let vss = z.0.4 in
-        let made : ByteTrace = record { marker = record {}; parts = a.0.now.parts } in
+        let made : ByteTrace = record {
+          marker = record {};
+          parts = a.0.now.parts;
+          failed =
+              a.0.now.failed;
+        } in
         qed 𝓛 ((raw toks ⊛ ‵ (owns (types_at (it.ended).signature.params z.0.0) a vss))
         ∷ raw ((it.clauses 𝓛 at_mem run z.0.0 a).requires z.1) ∷ []) ∵
         keep ! (0 ∷ []) $ split ! $ move ! (1 ∷ []) $
@@ -68,7 +74,8 @@ module _ {M : Type 1} {𝓤 : Ura M} (𝓛 : Logic 𝓤) (at_mem : Memory → SP
           (λ vss. (tt, ((λ uss. (tt, tt)), tt))),
           tt,
         ) (((vstruct vnil ∷ [], tt), (refl, ((tt, (refl, tt)), tt))), tt) $
-        suffices ! _ (ends_at 𝓛 it.ended stayed (it.clauses 𝓛 at_mem run) z v made (tt, tt) (tt, tt)) $ says ! refl $
+        suffices ! _ (ends_at 𝓛 it.ended stayed (it.clauses 𝓛 at_mem run) z v made (tt, tt) (tt, tt)) $ suffices ! _
+        (and_fact 𝓤 (on_exit 𝓛 it.ended stayed z.0.0 z.0.1 z.0.4 v made z.0.3 (tt, tt)) refl) $ says ! refl $
         nothing ! $ nothing ! $ fjoin ! $ move ! (2 ∷ 0 ∷ 1 ∷ []) $ done !))
 
   meets : (𝓣 : Tables 𝓤 H) → Meets 𝓛 it.signature (WpFn 𝓤 H 𝓣.C 𝓣.Λ code.function) (it.spec 𝓛 at_mem run)
