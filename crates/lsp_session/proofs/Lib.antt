@@ -7,6 +7,7 @@ pub mod ClientReading
 pub mod Dialogs
 pub mod Driver
 pub mod Driving
+pub mod Failing
 pub mod Forms
 pub mod FramePlaces
 pub mod Got

@@ -18,12 +18,12 @@ module _ {L : Type 0} (receives listens : Receives L) (sends : Sends L) (Rel : L
   same : (a b : L) → a ≡ b → Rel a b
   same a b is = subst (Rel a) is (own a)
 
-  gave_all : (events : List Event) (old new : L) → FoldsTo receives old events new → Rel old new
+  pub gave_all : (events : List Event) (old new : L) → FoldsTo receives old events new → Rel old new
   gave_all [] old new run = same old new run
   gave_all (e ∷ events) old new run = then_ old run.0 new (receiving old e run.0 run.1) (gave_all events run.0
       new run.2)
 
-  took_all : (ms : List Message) (old new : L) → FoldsTo (Takes sends) old ms new → Rel old new
+  pub took_all : (ms : List Message) (old new : L) → FoldsTo (Takes sends) old ms new → Rel old new
   took_all [] old new run = same old new run
   took_all (m ∷ ms) old new run = then_ old run.0 new (sending old m (Ok tt) run.0 run.1) (took_all ms run.0 new run.2)
 
@@ -36,7 +36,7 @@ module _ {L : Type 0} (receives listens : Receives L) (sends : Sends L) (Rel : L
   waited_in (ended by) event old new waits = absurd waits
   waited_in p event old new waits = waited event old new waits.0
 
-  refused_one : (lost : Option Message) (p : Phase) (old new : L) → Refuses receives listens sends lost p old new
+  pub refused_one : (lost : Option Message) (p : Phase) (old new : L) → Refuses receives listens sends lost p old new
       → Rel old new
   refused_one None p old new is = same old new (sym is)
   refused_one (Some m) (broken fault) old new refuses = sending old m (Err fault) new refuses

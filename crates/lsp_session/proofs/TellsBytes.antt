@@ -63,7 +63,7 @@ TellsActs-append limit ((lost m, parts) ∷ ns) ms a b c first second = (
       (a.0, first.0) b c first.2 second,
 )
 
-taken-append : (ns ms : List Note) → bytes_taken (ns ++ ms) ≡ bytes_taken ns ++ bytes_taken ms
+pub taken-append : (ns ms : List Note) → bytes_taken (ns ++ ms) ≡ bytes_taken ns ++ bytes_taken ms
 taken-append [] ms = refl
 taken-append ((gave event, parts) ∷ ns) ms = ap (λ l. concat parts ++ l) (taken-append ns ms)
     ∙ sym (append_assoc (concat parts) (bytes_taken ns) (bytes_taken ms))
@@ -123,7 +123,8 @@ skips_nothing passes nothing limit ((lost m, parts) ∷ notes) old new asked =
     skips_nothing passes nothing limit notes old new asked
 
 -- what ended the messages
-ends_after : {L : Type 0} (passes : L → ReadFault → L → Type 0) (limit : Limits) (old new : Stream × L) (event : Event)
+pub ends_after : {L : Type 0} (passes : L → ReadFault → L → Type 0) (limit : Limits) (old new : Stream × L)
+    (event : Event)
     → TolerantGives passes limit old event new → EndsAfter limit old.0.end event new.0.end
 ends_after passes limit old new woken gives = rw (gives.4) gives.5
 ends_after passes limit old new timeout gives = at old.0.end gives.0

@@ -32,6 +32,7 @@ pub mod Replies
 pub mod SessionOutcome
 pub mod Session
 pub mod SessionBytes
+pub mod SessionFailures
 pub mod SessionFault
 pub mod SessionLaws
 pub mod SessionRounds

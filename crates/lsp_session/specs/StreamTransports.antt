@@ -10,6 +10,7 @@ use Rattle.lsp_session.specs.FrameBoxes.{FrameOutboxSends}
 use Rattle.lsp_session.specs.PassingBoxes.{EndsAtContent, TolerantInboxGives}
 use Rattle.lsp_session.specs.PassingBytes.{GivesAndTells}
 use Rattle.lsp_session.specs.Session.{SessionPart, Phase, starting, replied, asked}
+use Rattle.lsp_session.specs.SessionFailures.{AddsReads, AddsWrites}
 use Rattle.lsp_session.specs.SessionLaws.{Both}
 use Rattle.lsp_session.specs.Transcripts.{notes_of}
 use Rattle.lsp_session.specs.declared.lifecycle.SendFault.{SendFault}
@@ -51,7 +52,7 @@ module _ {R W L : Type 0} where
       × (new.transcript.ghost_name ≡ old.transcript.ghost_name)
 
   -- One receive reads as an inbox over the reader does, writes nothing, and is added to the transcript with the bytes
-  -- that were taken for it.
+  -- that were taken for it, and with the failures of the reader.
   abbrev pub StreamTransportGives : (R → Option (List ℕ)) → (L → ReadFault → L → Type 0)
       → StreamTransport R W L → Event → StreamTransport R W L → Type 0
   StreamTransportGives remaining passes old event new =
@@ -60,6 +61,7 @@ module _ {R W L : Type 0} where
       × ((parts : Parts) × (notes_of new.transcript.now ≡ notes_of old.transcript.now ++ (gave event, parts) ∷ [])
       × Takes parts [] parts (remaining old.reader.now) (remaining new.reader.now)
       × TakenFor old.limits passes (old.end, old.policy.now) event (new.end, new.policy.now) parts)
+      × AddsReads event old.end new.end old.transcript.now new.transcript.now
 
   -- A wait that also gives wakes ended the messages at a content part that is no message only if the policy may end
   -- them.
@@ -68,7 +70,7 @@ module _ {R W L : Type 0} where
   StreamTransportListens ends old event new = EndsAtContent ends (inbox_of old) (inbox_of new)
 
   -- One send writes as an outbox over the writer does, reads nothing, and is added to the transcript with the bytes
-  -- that were given for it.
+  -- that were given for it, and with the failures of the writer.
   abbrev pub StreamTransportSends : (W → Option (List ℕ)) → StreamTransport R W L → Message
       → Result (Unit {0}) SendFault → StreamTransport R W L → Type 0
   StreamTransportSends contents old m outcome new =
@@ -80,6 +82,7 @@ module _ {R W L : Type 0} where
       ) ∷ [])
       × Gives parts [] parts (contents old.writer.now) (contents new.writer.now)
       × SentParts old.fault (sending m outcome) new.fault parts)
+      × AddsWrites old.fault new.fault old.transcript.now new.transcript.now
 
   -- A session on a transport that was not used yet: the transcript has it, byte for byte, and the transport has the
   -- ends that it had. Each content part that was skipped is no message, and the policy allowed that.

@@ -21,6 +21,7 @@ impl<'a, W: Write> FrameOutbox<'a, W> {
     ghost use Rattle.lsp_session.specs.ActBytes.{SentParts};
     ghost use Rattle.lsp_session.specs.Boxes.{handed_back};
     ghost use Rattle.lsp_session.specs.FrameBoxes.{FrameOutboxSends};
+    ghost use Rattle.lsp_session.specs.SessionFailures.{FailsInSend};
 
     /// Makes an outbox on a writer. It does not allocate.
     pub fn new(alloc: Global, writer: &'a mut W) -> Self
@@ -56,6 +57,7 @@ impl<'a, W: Write> FrameOutbox<'a, W> {
     }
 
     /// Sends a message, as `send` does, and adds the bytes that the writer takes to the trace.
+    #[tactic(auto, using(crate::proofs::Sendings::fails_at_kept, crate::proofs::Sendings::fails_at_sent, crate::proofs::Sendings::fails_at_lost))]
     pub(crate) fn send_traced(
         &mut self,
         message: Message,
@@ -65,6 +67,7 @@ impl<'a, W: Write> FrameOutbox<'a, W> {
         ensures back { IfErr result (λ fault. handed_back fault ≡ message) }
         ensures told { Given (SentParts self.old.fault (sending (message_view message) result) self.new.fault) given.old.parts
             given.new.parts (W.contents self.old.writer.now) (W.contents self.new.writer.now) }
+        ensures failed { FailsInSend self.old.fault self.new.fault given.old given.new }
     {
         if self.fault.is_some() {
             return Err(SendFault::Closed(message));
@@ -96,9 +99,11 @@ impl<'a, W: Write> FrameOutbox<'a, W> {
     ghost use Rattle.lsp_session.specs.ActBytes.{SentParts};
     ghost use Rattle.lsp_session.specs.Boxes.{handed_back};
     ghost use Rattle.lsp_session.specs.FrameBoxes.{FrameOutboxSends};
+    ghost use Rattle.lsp_session.specs.SessionFailures.{FailsInSend};
 
     /// Sends a response whose result is text already, as `send_text` does, and adds the bytes that the writer takes to
     /// the trace.
+    #[tactic(auto, using(crate::proofs::Sendings::fails_at_kept, crate::proofs::Sendings::fails_at_sent, crate::proofs::Sendings::fails_at_lost))]
     pub(crate) fn send_text_traced(
         &mut self,
         id: RequestId,
@@ -109,6 +114,7 @@ impl<'a, W: Write> FrameOutbox<'a, W> {
         ensures back { IfErr result (λ fault. message_view (handed_back fault) ≡ response id (Ok null)) }
         ensures told { Given (SentParts self.old.fault (sending (response id (Ok (view text))) result) self.new.fault) given.old.parts
             given.new.parts (W.contents self.old.writer.now) (W.contents self.new.writer.now) }
+        ensures failed { FailsInSend self.old.fault self.new.fault given.old given.new }
     {
         if self.fault.is_some() {
             drop(text);

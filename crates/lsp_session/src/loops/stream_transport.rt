@@ -1,6 +1,7 @@
 // A transport over a reader and a writer.
 ghost use Rattle.std.specs.Prelude.{◌≡◌, None};
 ghost use Rattle.lsp_session.specs.Event.{arrival_view, event_view};
+ghost use Rattle.lsp_session.specs.SessionFailures.{ReportsReader, ReportsWriter};
 ghost use Rattle.lsp_session.specs.SessionFault.{session_answer as session_answer_spec};
 ghost use Rattle.lsp_session.specs.Transcripts.{notes_of};
 ghost use Rattle.lsp_session.specs.StreamTransports.{GivesBetween, IsUnused, PassesBetween, Serves, StreamTransportGives, StreamTransportListens};
@@ -107,17 +108,23 @@ impl<'a, R: BufRead, W: Write, L: BadContentPolicy> StreamTransport<'a, R, W, L>
     /// for each, and in which order. It also says which content parts were skipped, and that the policy allowed each.
     /// With `EndOnBadContent` none is skipped (`laws::policies::nothing_is_skipped`). `known` says more if the reader's
     /// bytes are known, as those of a slice are.
+    ///
+    /// `reader` and `writer` are about failures. The transcript has the kind of each error with which the reader or the
+    /// writer failed. A result `Read(Input(kind))` or `Write(Output(kind))` has the kind of the last one.
     pub fn serve<A: Application>(&mut self, application: &mut A) -> Result<SessionEnd, SessionFault>
         requires { IsUnused self.old }
         ensures serves { Serves L.passes (A.session application.old application.new) self.old result self.new }
         ensures passed { PassesBetween R.remaining W.contents (notes_of self.new.transcript.now) self.old self.new }
         ensures known { GivesBetween R.remaining L.passes W.contents (A.session application.old application.new) self.old result self.new }
+        ensures reader { ReportsReader result self.new.transcript.now }
+        ensures writer { ReportsWriter result self.new.transcript.now }
     {
         let outcome = application.run(self.alloc, self);
         self.answer(outcome)
     }
 
     /// Does one wait that gives no wake-ups.
+    #[tactic(auto, using(crate::proofs::Noting::adds_reads))]
     fn next_event(&mut self) -> Event
         ensures { StreamTransportGives R.remaining L.passes self.old (event_view result) self.new }
     {
@@ -137,6 +144,7 @@ impl<'a, R: BufRead, W: Write, L: BadContentPolicy> StreamTransport<'a, R, W, L>
     }
 
     /// Does one wait that also gives wake-ups.
+    #[tactic(auto, using(crate::proofs::Noting::adds_reads))]
     fn next_arrival(&mut self) -> Arrival
         ensures gives { StreamTransportGives R.remaining L.passes self.old (arrival_view result)
             self.new }

@@ -5,6 +5,7 @@ ghost use Rattle.lsp_session.specs.ActBytes.{ReadParts, TakenFor};
 ghost use Rattle.lsp_session.specs.Event.{arrival_view, event_view};
 ghost use Rattle.lsp_session.specs.Passing.{is_bad_content as is_of_content_spec};
 ghost use Rattle.lsp_session.specs.PassingBoxes.{EndsAtContent, NeverEndsAtContent, ReadsNext, TolerantInboxGives};
+ghost use Rattle.lsp_session.specs.SessionFailures.{FailsInRead, FailsInWait};
 
 use crate::lifecycle::{Arrival, Event, Inbox, WakingInbox, is_exit};
 use crate::loops::{BadContentPolicy, ReadEnd};
@@ -87,11 +88,13 @@ impl<'a, R: BufRead, L: BadContentPolicy> TolerantInbox<'a, R, L> {
     }
 
     /// Reads a message, or `None` if the messages ended. A fault has not ended the messages yet.
+    #[tactic(auto, using(crate::proofs::ToldEvents::fails_at_none, crate::proofs::ToldEvents::fails_at_next, crate::proofs::ToldEvents::fails_at_fault, crate::proofs::ToldEvents::unended))]
     fn read_next(&mut self, taken: &mut ByteTrace) -> Result<Option<Message>, ReadFault>
         ensures read { ReadsNext R.remaining self.old result self.new }
         ensures reads_on { NeverEndsAtContent self.old self.new }
         ensures told { Told (ReadParts self.old.limits self.old.end result self.new.end) taken.old.parts
             taken.new.parts (R.remaining self.old.reader.now) (R.remaining self.new.reader.now) }
+        ensures failed { FailsInRead self.old.end result self.new.end taken.old taken.new }
     {
         if self.end.is_some() {
             return Ok(None);
@@ -112,6 +115,7 @@ impl<'a, R: BufRead, L: BadContentPolicy> TolerantInbox<'a, R, L> {
 
     /// Does one wait that also gives wake-ups. At a content part that is no message it asks the policy whether to read
     /// on.
+    #[tactic(auto, using(crate::proofs::ToldEvents::fails_at_end, crate::proofs::ToldEvents::fails_at_skip))]
     pub(crate) fn next_arrival(&mut self, taken: &mut ByteTrace) -> Arrival
         ensures gives { TolerantInboxGives R.remaining L.passes self.old (arrival_view result)
             self.new }
@@ -119,6 +123,7 @@ impl<'a, R: BufRead, L: BadContentPolicy> TolerantInbox<'a, R, L> {
         ensures told { Told (TakenFor self.old.limits L.passes (self.old.end, self.old.policy.now) (arrival_view result)
             (self.new.end, self.new.policy.now))
             taken.old.parts taken.new.parts (R.remaining self.old.reader.now) (R.remaining self.new.reader.now) }
+        ensures failed { FailsInWait self.old.end self.new.end taken.old taken.new }
     {
         match self.read_next(taken) {
             Ok(Some(message)) => Arrival::Message(message),
@@ -134,11 +139,13 @@ impl<'a, R: BufRead, L: BadContentPolicy> TolerantInbox<'a, R, L> {
     }
 
     /// Does one wait that gives no wake-ups.
+    #[tactic(auto, using(crate::proofs::ToldEvents::fails_at_end))]
     pub(crate) fn next_event(&mut self, taken: &mut ByteTrace) -> Event
         ensures gives { TolerantInboxGives R.remaining L.passes self.old (event_view result) self.new }
         ensures told { Told (TakenFor self.old.limits L.passes (self.old.end, self.old.policy.now) (event_view result)
             (self.new.end, self.new.policy.now))
             taken.old.parts taken.new.parts (R.remaining self.old.reader.now) (R.remaining self.new.reader.now) }
+        ensures failed { FailsInWait self.old.end self.new.end taken.old taken.new }
     {
         match self.read_next(taken) {
             Ok(Some(message)) => Event::Message(message),

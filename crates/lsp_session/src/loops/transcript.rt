@@ -4,14 +4,14 @@ ghost use Rattle.serde_json.specs.View.{view};
 ghost use Rattle.lsp_message.specs.Message.{response};
 ghost use Rattle.lsp_message.specs.View.{message_view};
 ghost use Rattle.lsp_session.specs.Account.{sending};
-ghost use Rattle.lsp_session.specs.Transcripts.{note_view, notes_of};
+ghost use Rattle.lsp_session.specs.Transcripts.{note_view, notes_of, reader_failed, reads_failed, writer_failed, writes_failed};
 
 use crate::lifecycle::{Arrival, Event, SendFault};
 use crate::loops::account::Account;
 use lsp_message::{ByteTrace, Message, RequestId, ResultText};
 use std::snapshot::Snapshot;
 
-/// An act of a transport, with the bytes that were read or written in it.
+/// An act of a transport, with the bytes that were read or written in it, and the failures.
 #[derive(Drop)]
 pub(crate) enum Noted {
     /// The transport returned this event.
@@ -35,7 +35,9 @@ impl Noted {
         outcome: &Result<(), SendFault>,
         given: ByteTrace,
     ) -> Noted
-        ensures { note_view result ≡ (sending (message_view sent.value) outcome.now, given.parts) }
+        ensures note { note_view result ≡ (sending (message_view sent.value) outcome.now, given.parts) }
+        ensures reader { reader_failed result ≡ [] }
+        ensures writer { writer_failed result ≡ given.failed }
     {
         match outcome {
             Ok(()) => Noted::Took(sent, given),
@@ -50,7 +52,9 @@ impl Noted {
         outcome: &Result<(), SendFault>,
         given: ByteTrace,
     ) -> Noted
-        ensures { note_view result ≡ (sending (response id.value (Ok (view text.value))) outcome.now, given.parts) }
+        ensures note { note_view result ≡ (sending (response id.value (Ok (view text.value))) outcome.now, given.parts) }
+        ensures reader { reader_failed result ≡ [] }
+        ensures writer { writer_failed result ≡ given.failed }
     {
         match outcome {
             Ok(()) => Noted::TookText(id, text, given),
@@ -59,8 +63,8 @@ impl Noted {
     }
 }
 
-/// The reads and writes of a transport, act after act in one order, each with its bytes. Only clauses see it: when a
-/// program runs, it is one byte.
+/// The reads and writes of a transport, act after act in one order, each with its bytes and its failures. Only clauses
+/// see it: when a program runs, it is one byte.
 #[derive(Drop)]
 pub struct Transcript {
     acts: Account<Noted>,
@@ -78,7 +82,9 @@ impl Transcript {
 
     /// Adds an act at the end.
     pub(crate) fn add(&mut self, noted: Noted)
-        ensures { notes_of self.new ≡ notes_of self.old ++ note_view noted ∷ [] }
+        ensures notes { notes_of self.new ≡ notes_of self.old ++ note_view noted ∷ [] }
+        ensures reads { reads_failed self.new ≡ reads_failed self.old ++ reader_failed noted }
+        ensures writes { writes_failed self.new ≡ writes_failed self.old ++ writer_failed noted }
     {
         self.acts.add(noted);
     }

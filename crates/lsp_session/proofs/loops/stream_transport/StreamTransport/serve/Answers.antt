@@ -1,5 +1,6 @@
 use Rattle.std.proofs.Common.{refl}
 use Rattle.lsp_session.specs.StreamTransports.{StreamTransportListens}
+use Rattle.lsp_session.proofs.Failing.{session_reports_reader, session_reports_writer}
 use Rattle.lsp_session.proofs.Knowing.{knows_itself}
 use Rattle.lsp_session.proofs.TransportInOrder.{lent_gives}
 use Rattle.lsp_session.proofs.TellsBytes.{serves, all_passed}
@@ -21,3 +22,13 @@ returns-clause-known g c =
     rw (c.answer.ensures) (lent_gives g.R.Read.remaining g.L.BadContentPolicy.passes g.W.Write.contents
     (StreamTransportListens g.L.BadContentPolicy.ends) _ _ _ (knows_itself _ _) _ _ c.requires _ c.run-outcome.ensures _
     refl _ _ _ _ _ _ refl refl refl (λ names. refl) (λ names. refl) (λ names. refl))
+
+pub returns-clause-reader : goal.returns-clause-reader
+returns-clause-reader g c =
+    rw (c.answer.ensures) (session_reports_reader g.R.Read.remaining g.L.BadContentPolicy.passes g.W.Write.contents
+    (StreamTransportListens g.L.BadContentPolicy.ends) _ _ _ (knows_itself _ _) _ _ c.requires _ c.run-outcome.ensures)
+
+pub returns-clause-writer : goal.returns-clause-writer
+returns-clause-writer g c =
+    rw (c.answer.ensures) (session_reports_writer g.R.Read.remaining g.L.BadContentPolicy.passes g.W.Write.contents
+    (StreamTransportListens g.L.BadContentPolicy.ends) _ _ _ (knows_itself _ _) _ _ c.requires _ c.run-outcome.ensures)
