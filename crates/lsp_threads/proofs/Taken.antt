@@ -26,7 +26,7 @@ use Rattle.lsp_session.specs.declared.loops.stream_session.SessionFault.{Session
 use Rattle.lsp_session.specs.declared.loops.stream_session.SessionFault.TheVariants.{Write as WriteFailed}
 use Rattle.lsp_session.specs.declared.loops.stream_session.SessionFault.TheVariants.{Memory as Full}
 use Rattle.lsp_threads.specs.Framing.{WritesBytes}
-use Rattle.lsp_threads.specs.Passing.{OfTaken, TakenFrom, GivenTo, GivesMore, noted}
+use Rattle.lsp_threads.specs.Passing.{OfTaken, TakenFrom, GivenTo, GivesMore, IsFlushed, IsFlushedUnless, noted}
 use Rattle.lsp_threads.specs.Pump.{Pumps}
 use Rattle.lsp_threads.specs.Threads.{ThreadsTellOver, WroteInThreads}
 use Rattle.lsp_threads.specs.declared.pumping.PumpFault.{PumpFault}
@@ -136,6 +136,14 @@ module _ (text : List ℕ) (old new : ByteTrace) (a b : Option (List ℕ)) (some
     ),
   )
   text_noted (Err NoMemory) output given = absurd output
+
+-- a text that was written was flushed
+pub text_flushed : (text : List ℕ) (t u : Parts) (a b : Option (List ℕ)) (r : Result (Unit {0}) WriteFault)
+    → IfErr r IsOutput → Given (WritesText text r) t u a b → IsFlushedUnless (result_err r) u
+text_flushed text t u a b (Ok done) output given =
+    inr (ap shows_end given.1.added ∙ end_of_last t given.0 given.2.1)
+text_flushed text t u a b (Err (Output kind)) output given = tt
+text_flushed text t u a b (Err NoMemory) output given = absurd output
 
 -- What was given to a writer that began empty, given to another one.
 module _ (all : List ℕ) (old new : Option (List ℕ)) (given : Appends old new all) where

@@ -1,7 +1,9 @@
 -- What is said of the bytes that were taken from a reader and given to a writer, of whatever reader and writer.
-use Rattle.std.specs.Prelude.{◌≡◌, ℕ, true, List, [], ◌++◌, Option, Some}
+use Rattle.std.specs.Prelude.{◌≡◌, ◌⊎◌, ℕ, true, List, [], ◌++◌, Option, Some}
 use Rattle.std.specs.List.{concat}
 use Rattle.lsp_message.specs.Told.{Parts, shows_end, Gives, Takes}
+use Rattle.lsp_message.specs.declared.frame.WriteFault.{WriteFault}
+use Rattle.lsp_message.specs.declared.frame.WriteFault.TheVariants.{Output}
 use Rattle.lsp_message.specs.declared.frame.byte_trace.ByteTrace.{ByteTrace}
 
 -- This holds of each text that begins with the bytes that were taken. If the reader showed its end, there is just one.
@@ -24,3 +26,12 @@ GivesMore before after old new = (parts : Parts) × Gives parts before after old
 -- what a writer holds that began empty and was given these bytes
 abbrev pub noted : ByteTrace → Option (List ℕ)
 noted trace = Some (concat trace.parts)
+
+-- All that was given was flushed: a flush came last, or nothing was given.
+abbrev pub IsFlushed : Parts → Type 0
+IsFlushed given = (given ≡ []) ⊎ (shows_end given ≡ true)
+
+-- the same, unless a write or a flush failed
+abbrev pub IsFlushedUnless : Option WriteFault → Parts → Type 0
+IsFlushedUnless (Some (Output kind)) given = Unit {0}
+IsFlushedUnless fault given = IsFlushed given

@@ -4,6 +4,7 @@ use Rattle.std.specs.Prelude.{◌⊎◌, ℕ, List, Option, Some, None, Result, 
 use Rattle.lsp_message.specs.Faults.{read_fault_text, write_fault_text}
 use Rattle.lsp_message.specs.Messages.{exited, ended, failed}
 use Rattle.lsp_message.specs.Message.{Message}
+use Rattle.lsp_message.specs.Told.{Parts}
 use Rattle.lsp_message.specs.Written.{GetsFrames, GetsFramesAndPart}
 use Rattle.lsp_message.specs.declared.frame.ReadFault.TheVariants.{Input, Memory}
 use Rattle.lsp_message.specs.declared.frame.WriteFault.TheVariants.{Output, Memory as NoMemory}
@@ -12,6 +13,7 @@ use Rattle.lsp_message.specs.declared.frame.limits.Limits.{Limits}
 use Rattle.lsp_session.specs.ReadLoop.{Extent, to_end, in_part, up_to, ReadsOver}
 use Rattle.lsp_session.specs.declared.loops.ReadEnd.{ReadEnd}
 use Rattle.lsp_session.specs.declared.loops.ReadEnd.TheVariants.{Exit, End, Fault, Closed, Memory as Full}
+use Rattle.lsp_threads.specs.Passing.{IsFlushed}
 use Rattle.lsp_threads.specs.declared.pumping.PumpFault.{PumpFault}
 use Rattle.lsp_threads.specs.declared.pumping.PumpFault.TheVariants.{Read, Write, Start}
 use Rattle.lsp_threads.specs.declared.workers.StartFault.{StartFault}
@@ -39,6 +41,11 @@ module _ (limit : Limits) (text : List ℕ) (old new : Option (List ℕ)) where
   Pumps (Err (Write (Output kind))) = BreaksOff
   Pumps (Err (Write NoMemory)) = PassesOn in_part
   Pumps (Err (Start fault)) = Keeps old new
+
+-- all that was given was flushed, unless a write or a flush failed
+abbrev pub PumpFlushes : Result (Unit {0}) PumpFault → Parts → Type 0
+PumpFlushes (Err (Write (Output kind))) given = Unit {0}
+PumpFlushes result given = IsFlushed given
 
 -- A fault of writing comes before one of reading. A frame that could not be made ends the reading. For private clauses:
 -- reading never ends at a closed outbox.

@@ -3,6 +3,7 @@
 use Rattle.std.specs.Prelude.{◌≡◌, ◌⊎◌, Bool, true, false, ℕ, List, ◌∷◌, ◌++◌, Option, Some, None, Result, Err}
 use Rattle.lsp_message.specs.Frame.{Begins}
 use Rattle.lsp_message.specs.Message.{Message}
+use Rattle.lsp_message.specs.Told.{Parts}
 use Rattle.lsp_message.specs.Written.{GetsFrames, GetsFramesAndPart, IsOutput}
 use Rattle.lsp_message.specs.declared.frame.ReadFault.{ReadFault}
 use Rattle.lsp_message.specs.declared.frame.limits.Limits.{Limits}
@@ -13,6 +14,7 @@ use Rattle.lsp_session.specs.declared.loops.ReadEnd.{ReadEnd}
 use Rattle.lsp_session.specs.declared.loops.handler.SessionEnd.{SessionEnd}
 use Rattle.lsp_session.specs.declared.loops.stream_session.SessionFault.{SessionFault}
 use Rattle.lsp_session.specs.declared.loops.stream_session.SessionFault.TheVariants.{Write, Memory}
+use Rattle.lsp_threads.specs.Passing.{IsFlushed}
 
 -- the writer got frames of the first of these messages, and a beginning of a frame of the next
 abbrev pub BreaksOffWithin : List Message → Option (List ℕ) → Option (List ℕ) → Type 0
@@ -45,6 +47,11 @@ WroteInThreads old new (Err (Write fault)) stop exchanges = IsOutput fault
     × BreaksOffWithin (sends_of exchanges) old new
 WroteInThreads old new (Err Memory) stop exchanges = GetsFirst (sends_of exchanges) old new
 WroteInThreads old new result stop exchanges = GetsFrames (sends_of exchanges) old new
+
+-- all that was given was flushed, unless the session ended with a fault of writing
+abbrev pub FlushesInThreads : Result SessionEnd SessionFault → Parts → Type 0
+FlushesInThreads (Err (Write fault)) given = Unit {0}
+FlushesInThreads result given = IsFlushed given
 
 -- bytes in to bytes out, of a session that passes over nothing, and that others can wake or not
 abbrev pub ThreadsGiveOver : Bool → Limits → SessionPart → List ℕ → Option (List ℕ) → Option (List ℕ)

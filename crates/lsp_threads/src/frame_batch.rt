@@ -4,7 +4,7 @@ ghost use Rattle.std.specs.Prelude.{◌≡◌, ◌∷◌, ◌++◌, [], None, Ok
 ghost use Rattle.lsp_message.specs.View.{message_view};
 ghost use Rattle.lsp_relay.specs.Relay.{IsOpen};
 ghost use Rattle.lsp_threads.specs.Framing.{parcel_bytes, AreEnded, FramingSends, Gathers, WritesBytes, WritesParcels};
-ghost use Rattle.lsp_threads.specs.Passing.{GivenTo, GivesMore, noted};
+ghost use Rattle.lsp_threads.specs.Passing.{GivesMore, IsFlushed, IsFlushedUnless, noted};
 
 use crate::backlog::{Backlog, Takes};
 use crate::parcels::{collect, deliver};
@@ -146,6 +146,7 @@ pub fn write_texts<R: Wait, W: Write>(
     ensures relay { result.0.relay ≡ rx.relay }
     ensures written { WritesParcels result.0.taken result.1 (noted given.old) (noted given.new) }
     ensures given { GivesMore given.old.parts given.new.parts (W.contents writer.old) (W.contents writer.new) }
+    ensures flushed { IsFlushed given.old.parts → IsFlushedUnless result.1 given.new.parts }
 {
     let mut rx = rx;
     let mut fault = None;
@@ -197,6 +198,7 @@ fn gather<W: Write>(
     ensures gathered { Gathers before (string_bytes pending ++ string_bytes text)
         (string_bytes result.0) result.1 (noted given.old) (noted given.new) }
     ensures given { GivesMore given.old.parts given.new.parts (W.contents writer.old) (W.contents writer.new) }
+    ensures flushed { IsFlushedUnless before given.old.parts → IsFlushedUnless result.1 given.new.parts }
 {
     let mut pending = pending;
     if joins(&mut pending, &text) {
@@ -232,6 +234,7 @@ fn write_after<W: Write>(
     ensures some { OnSome before ((result ≡ before) × (given.new ≡ given.old)) }
     ensures silent { OnSome before (writer.new ≡ writer.old) }
     ensures given { GivesMore given.old.parts given.new.parts (W.contents writer.old) (W.contents writer.new) }
+    ensures flushed { IsFlushedUnless before given.old.parts → IsFlushedUnless result given.new.parts }
 {
     if before.is_some() || text.is_empty() {
         return before;

@@ -2,7 +2,7 @@
 ghost use Rattle.std.specs.Prelude.{◌≡◌, [], IfSome, Option, Some};
 ghost use Rattle.lsp_message.specs.Frame.{no_limit, of_content};
 ghost use Rattle.lsp_threads.specs.Passing.{GivenTo, OfTaken, TakenFrom, noted};
-ghost use Rattle.lsp_threads.specs.Pump.{Pumps, pump_answer};
+ghost use Rattle.lsp_threads.specs.Pump.{PumpFlushes, Pumps, pump_answer};
 
 use crate::backlog::bounded_backlog;
 use crate::frame_batch::write_texts;
@@ -154,6 +154,7 @@ where
         Pumps limits text (Some []) (noted result.given) result.answer) }
     ensures taken { TakenFrom (R.remaining reader) result.taken.parts }
     ensures given { GivenTo (W.contents writer.old) result.given.parts (W.contents writer.new) }
+    ensures flushed { PumpFlushes result.answer result.given.parts }
 {
     let Ok((tx, rx)) = relay::<String, AnyPlan>(alloc, PARCEL_ROOM) else {
         return not_started(StartFault::Memory);

@@ -5,7 +5,7 @@ ghost use Rattle.lsp_message.specs.Frame.{no_limit, of_content};
 ghost use Rattle.lsp_session.specs.HandlerSession.{of_handler};
 ghost use Rattle.lsp_session.specs.Session.{SessionOut};
 ghost use Rattle.lsp_threads.specs.Passing.{GivenTo, OfTaken, TakenFrom, noted};
-ghost use Rattle.lsp_threads.specs.Threads.{ThreadsGive, ThreadsTell, ThreadsTellOver};
+ghost use Rattle.lsp_threads.specs.Threads.{FlushesInThreads, ThreadsGive, ThreadsTell, ThreadsTellOver};
 
 use crate::content_batch::{Contents, ContentsPlan, ContentsRx, ContentsTx};
 use crate::serving::{serve_between, start_both};
@@ -127,6 +127,7 @@ where
         text (Some []) (noted done.given) done.answer)) }
     ensures passed { IfOk result (λ done. TakenFrom (R.remaining reader) done.taken.parts
         × GivenTo (W.contents writer) done.given.parts (W.contents done.writer)) }
+    ensures flushed { IfOk result (λ done. FlushesInThreads done.answer done.given.parts) }
     ensures session { IfSome (R.remaining reader) (λ text. IfOk result (λ done.
         ThreadsGive no_limit
         (SessionOut (of_handler H.answer_post H.note_post (view capabilities)) handler.old handler.new)
@@ -159,6 +160,7 @@ where
         text (Some []) (noted done.given) done.answer)) }
     ensures passed { IfOk result (λ done. TakenFrom (R.remaining reader) done.taken.parts
         × GivenTo (W.contents writer) done.given.parts (W.contents done.writer)) }
+    ensures flushed { IfOk result (λ done. FlushesInThreads done.answer done.given.parts) }
     ensures session { IfSome (R.remaining reader) (λ text. IfOk result (λ done.
         ThreadsGive (of_content limit)
         (SessionOut (of_handler H.answer_post H.note_post (view capabilities)) handler.old handler.new)
@@ -220,6 +222,7 @@ where
         policy.old policy.new (Some []) (noted done.given) done.answer)) }
     ensures passed { IfOk result (λ done. TakenFrom (R.remaining reader) done.taken.parts
         × GivenTo (W.contents writer) done.given.parts (W.contents done.writer)) }
+    ensures flushed { IfOk result (λ done. FlushesInThreads done.answer done.given.parts) }
     ensures session { IfSome (R.remaining reader) (λ text. IfOk result (λ done.
         ThreadsTell L.passes options.limits (A.session application.old application.new) text
         policy.old policy.new (W.contents writer) (W.contents done.writer) done.answer)) }
@@ -272,6 +275,7 @@ where
         policy.old policy.new (Some []) (noted done.given) done.answer)) }
     ensures passed { IfOk result (λ done. TakenFrom (R.remaining reader) done.taken.parts
         × GivenTo (W.contents writer) done.given.parts (W.contents done.writer)) }
+    ensures flushed { IfOk result (λ done. FlushesInThreads done.answer done.given.parts) }
     ensures session { IfSome (R.remaining reader) (λ text. IfOk result (λ done.
         ThreadsTellOver ends.0.wakeable L.passes options.limits
         (A.session application.old application.new) text

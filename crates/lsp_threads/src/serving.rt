@@ -2,7 +2,7 @@
 ghost use Rattle.std.specs.Prelude.{◌≡◌, [], IfOk, Some};
 ghost use Rattle.lsp_threads.specs.Contents.{LeavesReading, source_of};
 ghost use Rattle.lsp_threads.specs.Passing.{GivenTo, OfTaken, TakenFrom, noted};
-ghost use Rattle.lsp_threads.specs.Threads.{ThreadsTellOver, session_end as session_end_spec};
+ghost use Rattle.lsp_threads.specs.Threads.{FlushesInThreads, ThreadsTellOver, session_end as session_end_spec};
 
 use crate::backlog::{Backlog, Takes, bounded_backlog};
 use crate::content_batch::{Contents, ContentsPlan, ContentsRx, ContentsTx};
@@ -194,6 +194,7 @@ where
         result.taken.parts }
     ensures given { GivenTo (W.contents workers.writing.promise.writer.value.inner)
         result.given.parts (W.contents result.writer) }
+    ensures flushed { FlushesInThreads result.answer result.given.parts }
 {
     let Workers {
         rx,

@@ -2,7 +2,7 @@
 ghost use Rattle.std.specs.List.{concat};
 ghost use Rattle.std.specs.Prelude.{◌≡◌, [], IfOk, Some};
 ghost use Rattle.lsp_threads.specs.Framing.{WritesParcels};
-ghost use Rattle.lsp_threads.specs.Passing.{GivenTo};
+ghost use Rattle.lsp_threads.specs.Passing.{GivenTo, IsFlushedUnless};
 
 use crate::backlog::{Backlog, Takes};
 use crate::frame_batch::write_texts;
@@ -104,7 +104,8 @@ pub trait WritesFrom: Drop {
         requires { rx.taken ≡ [] }
         ensures relay { result.0.relay ≡ rx.relay }
         ensures written { writes result.0.taken result.2 (Some []) (Some (concat result.3.parts)) }
-        ensures given { GivenTo (W.contents writer) result.3.parts (W.contents result.1) };
+        ensures given { GivenTo (W.contents writer) result.3.parts (W.contents result.1) }
+        ensures flushed { IsFlushedUnless result.2 result.3.parts };
 }
 
 /// What the reading thread returns: the sender's end of the relay that it was given.
@@ -132,11 +133,12 @@ impl<W: Write, M: WritesFrom> Promise<(RelayRx<M>, W, Option<WriteFault>, ByteTr
     for Writer<W, M> {
     ghost use Rattle.std.specs.List.{concat};
     ghost use Rattle.std.specs.Prelude.{◌≡◌, [], Some};
-    ghost use Rattle.lsp_threads.specs.Passing.{GivenTo};
+    ghost use Rattle.lsp_threads.specs.Passing.{GivenTo, IsFlushedUnless};
 
     ghost kept_by = { λ p r. (r.0.relay ≡ p.rx.value.relay)
         × M.writes r.0.taken r.2 (Some []) (Some (concat r.3.parts))
-        × GivenTo (W.contents p.writer.value) r.3.parts (W.contents r.1) };
+        × GivenTo (W.contents p.writer.value) r.3.parts (W.contents r.1)
+        × IsFlushedUnless r.2 r.3.parts };
 }
 
 /// Starts the reading thread.
@@ -224,6 +226,7 @@ impl WritesFrom for String {
         ensures relay { result.0.relay ≡ rx.relay }
         ensures written { WritesParcels result.0.taken result.2 (Some []) (Some (concat result.3.parts)) }
         ensures given { GivenTo (W.contents writer) result.3.parts (W.contents result.1) }
+        ensures flushed { IsFlushedUnless result.2 result.3.parts }
     {
         let mut writer = writer;
         let mut given = ByteTrace::new();

@@ -1,5 +1,5 @@
 use Rattle.std.proofs.Common.{◌∙◌, sym}
-use Rattle.lsp_threads.proofs.Taken.{some_bytes, text_noted}
+use Rattle.lsp_threads.proofs.Taken.{some_bytes, text_flushed, text_noted}
 use Rattle.lsp_threads.proofs.frame_batch.write_after.Goals as goal
 
 pub returns-clause-none : goal.returns-clause-none
@@ -7,3 +7,9 @@ returns-clause-none g c = λ none.
     rw c.err.ensures.value (text_noted c.args.text.now c.args.given.now c.write_frames_traced.new.given _ _
     (some_bytes c.args.text.now (sym c.is_empty.ensures ∙ c.if-is_empty.false))
     c.write_frames_traced.result c.write_frames_traced.ensures.fault c.write_frames_traced.ensures.told)
+
+pub returns-clause-flushed : goal.returns-clause-flushed
+returns-clause-flushed g c = λ so_far.
+    rw c.err.ensures.value (text_flushed c.args.text.now c.args.given.now.parts
+    c.write_frames_traced.new.given.parts _ _ c.write_frames_traced.result c.write_frames_traced.ensures.fault
+    c.write_frames_traced.ensures.told)

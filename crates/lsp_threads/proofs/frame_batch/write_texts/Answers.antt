@@ -20,6 +20,7 @@ loop-preserved-in-Some-Message g c =
           (more_unwritten (parcel_bytes c.loop.rx.taken) (string_bytes text) (string_bytes c.loop.pending) _
           (noted c.args.given.now) _ _ c.loop.fault _ c.loop.invariant.unwritten c.gather-left.ensures.gathered);
       given = gives_then _ _ _ _ _ _ c.loop.invariant.given c.gather-left.ensures.given;
+      flushed = λ first. c.gather-left.ensures.flushed (c.loop.invariant.flushed first);
     }
 
 -- nothing more was there, so what had been gathered was written
@@ -38,6 +39,7 @@ loop-preserved g c =
           c.loop.invariant.unwritten (rw c.deref-in-None-next_parcel.ensures at fault.ensures.none)
           fault.ensures.some));
       given = gives_then _ _ _ _ _ _ c.loop.invariant.given fault.ensures.given;
+      flushed = λ first. fault.ensures.flushed (c.loop.invariant.flushed first);
     }
 
 pub returns-in-Some-End-clause-written : goal.returns-in-Some-End-clause-written
@@ -53,3 +55,6 @@ returns-in-Some-End-clause-written g c =
 
 pub returns-in-Some-End-clause-given : goal.returns-in-Some-End-clause-given
 returns-in-Some-End-clause-given g c = gives_then _ _ _ _ _ _ c.loop.invariant.given c.write_after.ensures.given
+
+pub returns-in-Some-End-clause-flushed : goal.returns-in-Some-End-clause-flushed
+returns-in-Some-End-clause-flushed g c = λ first. c.write_after.ensures.flushed (c.loop.invariant.flushed first)

@@ -2,7 +2,7 @@ use Rattle.std.specs.Prelude.{◌≡◌, string_bytes}
 use Rattle.lsp_relay.specs.Relay.{IsOpen}
 use Rattle.lsp_threads.proofs.Frames.{Unwritten}
 use Rattle.lsp_threads.specs.Framing.{parcel_bytes}
-use Rattle.lsp_threads.specs.Passing.{GivesMore, noted}
+use Rattle.lsp_threads.specs.Passing.{GivesMore, IsFlushed, IsFlushedUnless, noted}
 use Rattle.lsp_threads.proofs.frame_batch.write_texts.Given as goal
 
 -- texts were taken, and written so far but for the last ones
@@ -12,4 +12,5 @@ invariant-loop g l = record {
   still_open : IsOpen l.rx.taken;
   unwritten : Unwritten (parcel_bytes l.rx.taken) (string_bytes l.pending) l.fault (noted l.fn.given) (noted l.given);
   given : GivesMore l.fn.given.parts l.given.parts (g.W.Write.contents l.fn.writer) (g.W.Write.contents l.writer);
+  flushed : IsFlushed l.fn.given.parts → IsFlushedUnless l.fault l.given.parts;
 }

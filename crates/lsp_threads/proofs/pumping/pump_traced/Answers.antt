@@ -1,6 +1,7 @@
-use Rattle.std.proofs.Common.{[], ◌++◌, Some, subst}
+use Rattle.std.proofs.Common.{[], ◌++◌, inl, Some, subst}
 use Rattle.std.specs.List.{concat}
 use Rattle.lsp_threads.specs.Framing.{TellsFrames}
+use Rattle.lsp_threads.proofs.Flushing.{nothing_flushed, pump_flushed}
 use Rattle.lsp_threads.proofs.Frames.{pumped_over}
 use Rattle.lsp_threads.proofs.Taken.{given_whole, nothing_taken}
 use Rattle.lsp_threads.proofs.pumping.pump_traced.Goals as goal
@@ -43,3 +44,19 @@ returns-in_default-bounded_backlog-clause-taken g c = (
   rw c.not_started-in_default-bounded_backlog.ensures.nothing.0 (nothing_taken
       (g.R.Read.remaining c.args.reader)),
 )
+
+pub returns-clause-flushed : goal.returns-clause-flushed
+returns-clause-flushed g c = rw c.answer_of.ensures (pump_flushed c.write_texts-rx.new.given.parts c.join-tx.result.1
+    c.write_texts-rx.result.1 (c.write_texts-rx.ensures.flushed (inl c.new-given.ensures.parts)))
+
+pub returns-in_default-clause-flushed : goal.returns-in_default-clause-flushed
+returns-in_default-clause-flushed g c =
+    let none = c.not_started.ensures in nothing_flushed _ _ _ none.answer none.nothing.1
+
+pub returns-in-Err-clause-flushed : goal.returns-in-Err-clause-flushed
+returns-in-Err-clause-flushed g c =
+    let none = c.not_started-in-Err.ensures in nothing_flushed _ _ _ none.answer none.nothing.1
+
+pub returns-in_default-bounded_backlog-clause-flushed : goal.returns-in_default-bounded_backlog-clause-flushed
+returns-in_default-bounded_backlog-clause-flushed g c =
+    let none = c.not_started-in_default-bounded_backlog.ensures in nothing_flushed _ _ _ none.answer none.nothing.1

@@ -12,6 +12,7 @@ use Rattle.lsp_threads.specs.Replies.{Gathered, RepliesSend, reply_fault}
 use Rattle.lsp_threads.specs.ThreadEnds.{seen_of}
 use Rattle.lsp_threads.specs.Threads.{session_end}
 use Rattle.lsp_threads.proofs.ContentStream.{gives_relay}
+use Rattle.lsp_threads.proofs.Flushing.{session_flushed}
 use Rattle.lsp_threads.proofs.Replies.{all_replied}
 use Rattle.lsp_threads.proofs.Sessions.{threads_tell}
 use Rattle.lsp_threads.proofs.serving.serve_between.Goals as goal
@@ -50,6 +51,11 @@ returns-clause-taken g c = c.leave_reading-read.ensures.6
 
 pub returns-clause-given : goal.returns-clause-given
 returns-clause-given g c = c.join-replies_rx.ensures.2
+
+pub returns-clause-flushed : goal.returns-clause-flushed
+returns-clause-flushed g c = rw (c.session_answer-answer.ensures, c.reply_fault-fault.ensures)
+    (session_flushed c.join-replies_rx.result.3.parts c.serve_ends-served.result.stop c.serve_ends-served.result.answer
+    c.session_end.result c.join-replies_rx.result.2 c.finish-replies.result.1 c.join-replies_rx.ensures.3)
 
 pub returns-clause-told : goal.returns-clause-told
 returns-clause-told g c = λ rest ends.
