@@ -1,5 +1,5 @@
 -- What was flushed at the end, of a session and of a pump.
-use Rattle.std.proofs.Common.{◌≡◌, sym, inl, List, [], Bool, true, false, Option, Some, None, Result, Ok, Err}
+use Rattle.std.proofs.Common.{◌≡◌, inl, [], Bool, true, false, Option, Some, None, Result, Ok, Err}
 use Rattle.lsp_message.specs.Told.{Parts}
 use Rattle.lsp_message.specs.declared.frame.ReadFault.TheVariants.{Memory as NoMemoryToRead}
 use Rattle.lsp_message.specs.declared.frame.WriteFault.{WriteFault}

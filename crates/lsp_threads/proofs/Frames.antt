@@ -2,7 +2,7 @@
 -- says it.
 use Rattle.std.proofs.Common.{◌≡◌, true, false, ◌⊎◌, inl, inr, ℕ, ◌<◌, arith, List, [], ◌∷◌, ◌++◌, ◌∙◌, ap, sym, refl}
 use Rattle.std.proofs.Common.{map, length, length-append, append_assoc, append-nil, Option, Some, None, IfSome, OnSome}
-use Rattle.std.proofs.Common.{Result, Ok, Err, OnOk, String, string_bytes, subst, Global}
+use Rattle.std.proofs.Common.{Result, Ok, Err, OnOk, string_bytes, subst}
 use Rattle.std.proofs.KnownBytes.{Appends-nil, Appends-trans}
 use Rattle.std.specs.Io.KnownBytes.{Keeps}
 use Rattle.std.specs.List.{concat, FoldsTo}
@@ -37,28 +37,29 @@ use Rattle.lsp_threads.proofs.Taken.{told_last, told_next}
 use Rattle.lsp_threads.specs.Passing.{OfTaken, TakenFrom}
 use Rattle.lsp_threads.specs.Pump.{Pumps, pump_answer}
 use Rattle.lsp_threads.specs.Threads.{BreaksOffWithin}
+use Rattle.lsp_threads.specs.declared.frame_text.FrameText.{FrameText}
 
 -- ---- bytes of parcels
-pub parcel_bytes-append : (a b : List (Parcel (String Global))) → parcel_bytes (a ++ b) ≡ parcel_bytes a
+pub parcel_bytes-append : (a b : List (Parcel FrameText)) → parcel_bytes (a ++ b) ≡ parcel_bytes a
     ++ parcel_bytes b
 parcel_bytes-append [] b = refl
-parcel_bytes-append (parcel.Message text ∷ rest) b =
-    ap (λ l. string_bytes text ++ l) (parcel_bytes-append rest b) ∙ sym (append_assoc (string_bytes text)
+parcel_bytes-append (parcel.Message t ∷ rest) b =
+    ap (λ l. string_bytes t.text ++ l) (parcel_bytes-append rest b) ∙ sym (append_assoc (string_bytes t.text)
     (parcel_bytes rest) (parcel_bytes b))
 parcel_bytes-append (parcel.End ∷ rest) b = parcel_bytes-append rest b
 
 -- one text more
-pub parcel_bytes-push : (sent : List (Parcel (String Global))) (text : String Global) → parcel_bytes (sent
-    ++ parcel.Message text ∷ []) ≡ parcel_bytes sent ++ string_bytes text
-parcel_bytes-push sent text = parcel_bytes-append sent (parcel.Message text ∷ []) ∙ ap (λ l. parcel_bytes sent ++ l)
-    (append-nil (string_bytes text))
+pub parcel_bytes-push : (sent : List (Parcel FrameText)) (t : FrameText) → parcel_bytes (sent
+    ++ parcel.Message t ∷ []) ≡ parcel_bytes sent ++ string_bytes t.text
+parcel_bytes-push sent t = parcel_bytes-append sent (parcel.Message t ∷ []) ∙ ap (λ l. parcel_bytes sent ++ l)
+    (append-nil (string_bytes t.text))
 
-pub parcel_bytes-end : (sent : List (Parcel (String Global))) → parcel_bytes (sent ++ parcel.End ∷ [])
+pub parcel_bytes-end : (sent : List (Parcel FrameText)) → parcel_bytes (sent ++ parcel.End ∷ [])
     ≡ parcel_bytes sent
 parcel_bytes-end sent = parcel_bytes-append sent (parcel.End ∷ []) ∙ append-nil (parcel_bytes sent)
 
 -- if no End was sent, texts were
-open_texts : (sent : List (Parcel (String Global))) → IsOpen sent → (texts : List (String Global))
+open_texts : (sent : List (Parcel FrameText)) → IsOpen sent → (texts : List FrameText)
     × (sent ≡ map parcel.Message texts)
 open_texts [] still_open = ([], refl)
 open_texts (parcel.Message text ∷ rest) still_open = let more = open_texts rest still_open in (
@@ -67,11 +68,11 @@ open_texts (parcel.Message text ∷ rest) still_open = let more = open_texts res
 )
 open_texts (parcel.End ∷ rest) still_open = absurd still_open
 
-pub ended_after : (sent : List (Parcel (String Global))) → IsOpen sent → AreEnded (sent ++ parcel.End ∷ [])
+pub ended_after : (sent : List (Parcel FrameText)) → IsOpen sent → AreEnded (sent ++ parcel.End ∷ [])
 ended_after sent still_open = let all = open_texts sent still_open in (all.0, ap (λ l. l ++ parcel.End ∷ []) all.1)
 
 -- what was taken up to End is what was sent
-pub same_parcels : (taken sent : List (Parcel (String Global))) → AreEnded taken → AreEnded sent → IsPrefix taken sent
+pub same_parcels : (taken sent : List (Parcel FrameText)) → AreEnded taken → AreEnded sent → IsPrefix taken sent
     → sent ≡ taken
 same_parcels taken sent t s settled = s.1 ∙ ap ended (sym (same_messages t.0 s.0 taken sent t.1 s.1 settled)) ∙ sym t.1
 
@@ -98,8 +99,8 @@ framed_more m old new frame (Err fault) is joined = tt
 
 -- ---- what a thread that reads sent
 module _ (limit : Limits) where
-  pub handed_frames : (known : Option (List ℕ)) (tx : Sending (String Global)) (start mid : Framing) (left : Option
-      (List ℕ)) (back : Sending (String Global)) (end : ReadEnd)
+  pub handed_frames : (known : Option (List ℕ)) (tx : Sending FrameText) (start mid : Framing) (left : Option
+      (List ℕ)) (back : Sending FrameText) (end : ReadEnd)
       → start ≡ record { relay = tx.relay; bytes = [] } → IfSome known (λ text. Hands limit FramingSends text start mid
       left end)
       → parcel_bytes back.sent ≡ mid.bytes → AreEnded back.sent → IfSome known (λ text. HandsFrames limit text tx
@@ -109,8 +110,8 @@ module _ (limit : Limits) where
       (mid, left, subst (λ f. Hands limit FramingSends text f mid left end) same handed, all, ended)
 
   -- the same of the bytes that were taken
-  pub tells_frames : (known : Option (List ℕ)) (tx : Sending (String Global)) (start mid : Framing) (back : Sending
-      (String Global)) (end : ReadEnd) (taken : Parts)
+  pub tells_frames : (known : Option (List ℕ)) (tx : Sending FrameText) (start mid : Framing) (back : Sending
+      FrameText) (end : ReadEnd) (taken : Parts)
       → start ≡ record { relay = tx.relay; bytes = [] } → OfTaken taken (λ text. HandsSome limit text start mid end)
       → TakenFrom known taken
       → parcel_bytes back.sent ≡ mid.bytes → AreEnded back.sent → TellsFrames limit known tx end taken back
@@ -124,10 +125,10 @@ module _ (limit : Limits) where
   same_bytes Memory mid new after = ap (λ (f : Framing). f.bytes) after.2
   same_bytes end mid new after = ap (λ (f : Framing). f.bytes) after
 
-  abbrev pub unsent : Sending (String Global) → Framing
+  abbrev pub unsent : Sending FrameText → Framing
   unsent tx = record { relay = tx.relay; bytes = [] }
 
-  pub sent_frames : (tx back : Sending (String Global)) (text : List ℕ) (end : ReadEnd) → HandsFrames limit text tx
+  pub sent_frames : (tx back : Sending FrameText) (text : List ℕ) (end : ReadEnd) → HandsFrames limit text tx
       end back
       → (new : Framing) × (on : HandedOn limit FramingSends text (unsent tx) end new) × AreFramesOf on.messages
       (parcel_bytes back.sent)
@@ -454,8 +455,8 @@ module _ (limit : Limits) where
     pumped bytes end (Some NoMemory) rest frames read open_still reads (output, some, begun) = absurd output
 
   -- the same of what was sent on a relay and what was taken from it
-  pub pumped_over : (known : Option (List ℕ)) (a b : Option (List ℕ)) (tx back : Sending (String Global))
-      (taken : List (Parcel (String Global))) (read : ReadEnd) (fault : Option WriteFault)
+  pub pumped_over : (known : Option (List ℕ)) (a b : Option (List ℕ)) (tx back : Sending FrameText)
+      (taken : List (Parcel FrameText)) (read : ReadEnd) (fault : Option WriteFault)
       → IfSome known (λ text. HandsFrames limit text tx read back) → WritesParcels taken fault a b
       → IsPrefix taken back.sent
       → IfSome known (λ text. Pumps limit text a b (pump_answer read fault))

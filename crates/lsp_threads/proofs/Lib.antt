@@ -4,10 +4,14 @@ pub mod ContentWaits
 pub mod ContentsSend
 pub mod Flushing
 pub mod Frames
+pub mod FrameTextSend
+pub mod GivenInOrder
 pub mod GoesOn
 pub mod Handed
 pub mod HeaderFaults
 pub mod Leaving
+pub mod Order
+pub mod RefusedOrder
 pub mod RefusedParts
 pub mod RefusedReplies
 pub mod RefusedWakes
@@ -15,3 +19,4 @@ pub mod Replies
 pub mod Sessions
 pub mod Taken
 pub mod ThreadEnds
+pub mod Writes

@@ -1,7 +1,7 @@
 -- Replies that an outbox made frames of, and what is written of all that it was offered. A session over such an outbox,
 -- as its contract says it.
 use Rattle.std.proofs.Common.{◌≡◌, refl, sym, ◌∙◌, ap, inl, inr, append-nil, append_assoc, ℕ, Bool, true, false}
-use Rattle.std.proofs.Common.{true≢false, List, [], ◌∷◌, ◌++◌, Some, None, Option, Result, Ok, Err, String, Global}
+use Rattle.std.proofs.Common.{true≢false, List, [], ◌∷◌, ◌++◌, Some, None, Option, Result, Err}
 use Rattle.std.specs.List.{FoldsTo}
 use mathlib.Core.List.{IsPrefix}
 use Rattle.lsp_message.specs.Message.{Message}
@@ -35,6 +35,7 @@ use Rattle.lsp_threads.proofs.Frames.{breaks, same_parcels}
 use Rattle.lsp_threads.specs.Framing.{parcel_bytes, AreEnded, WritesBytes, WritesParcels}
 use Rattle.lsp_threads.specs.Replies.{Replying, RepliesSend, reply_fault, IsWhole, WritesReplies}
 use Rattle.lsp_threads.specs.Threads.{EndsInThreads, ReadsFrameOrWakes, ThreadsTellOver, WroteInThreads}
+use Rattle.lsp_threads.specs.declared.frame_text.FrameText.{FrameText}
 
 -- ---- what was sent
 -- messages that an outbox took added their frames
@@ -149,7 +150,7 @@ module _ (stop : Stop) (ms : List Message) (a b : Option (List ℕ)) where
     bytes_written (Some fault) failed whole written = some_written fault written
 
   module _ (old new : Replying) (unsent : old.bytes ≡ []) (replied : Replied old new stop ms) (taken sent : List
-      (Parcel (String Global)))
+      (Parcel FrameText))
       (all : parcel_bytes sent ≡ new.bytes) (ended : AreEnded sent) (settled : IsPrefix taken sent) where
     -- the output was written: the first fault is that of the thread that writes, or of the outbox
     pub replies_written : (fault : Option WriteFault) → WritesParcels taken fault a b → WritesReplies stop ms

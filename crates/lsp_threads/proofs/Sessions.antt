@@ -1,6 +1,6 @@
 -- A session over relays, as its contract says it: it is one over bytes, but what is left of them is not known.
 use Rattle.std.proofs.Common.{arith, ◌≡◌, ◌≤◌, refl, ◌∙◌, ap, subst, inl, inr, ℕ, Bool, true, false, List, [], ◌∷◌}
-use Rattle.std.proofs.Common.{◌++◌, Some, None, Option, IfSome, String, Global}
+use Rattle.std.proofs.Common.{◌++◌, Some, None, Option, IfSome}
 use Rattle.std.specs.Bool.{MatchBool}
 use Rattle.std.specs.List.{concat, FoldsTo}
 use Rattle.std.specs.Prelude.{Result, Ok, Err, IfOk, OnErr}
@@ -34,6 +34,7 @@ use Rattle.lsp_message.specs.declared.frame.limits.Limits.{Limits}
 use Rattle.lsp_threads.specs.Passing.{OfTaken}
 use Rattle.lsp_threads.specs.Replies.{Replying, RepliesSend, reply_fault, WritesReplies}
 use Rattle.lsp_threads.specs.Threads.{ReadsFrameOrWakes, ReadsOrWakes, session_end, ThreadsGiveOver, ThreadsTellOver}
+use Rattle.lsp_threads.specs.declared.frame_text.FrameText.{FrameText}
 
 -- over what is seen of the inbox and of the outbox
 module _ {L : Type 0} (passes : L → ReadFault → L → Type 0) (limit : Limits) (P Q : SessionPart) (reason : StopReason)
@@ -54,7 +55,7 @@ module _ {L : Type 0} (passes : L → ReadFault → L → Type 0) (limit : Limit
       × (taken ≡ inbox'.0.taken ++ ended more)))
       (settled : IsPrefix taken back.sent) (silent : back.wakeable ≡ false → inbox'.0.wakes ≡ 0)
       (tx : Sending Contents) (read : ReadEnd)
-      (replies_taken replies : List (Parcel (String Global))) (all : parcel_bytes replies ≡ outbox'.bytes)
+      (replies_taken replies : List (Parcel FrameText)) (all : parcel_bytes replies ≡ outbox'.bytes)
       (finished : AreEnded replies) (fault : Option WriteFault)
       (written : WritesParcels replies_taken fault a b) (replies_settled : IsPrefix replies_taken replies) where
     -- the output was written

@@ -26,7 +26,7 @@ use Rattle.lsp_session.specs.declared.loops.stream_session.SessionFault.{Session
 use Rattle.lsp_session.specs.declared.loops.stream_session.SessionFault.TheVariants.{Write as WriteFailed}
 use Rattle.lsp_session.specs.declared.loops.stream_session.SessionFault.TheVariants.{Memory as Full}
 use Rattle.lsp_threads.specs.Framing.{WritesBytes}
-use Rattle.lsp_threads.specs.Passing.{OfTaken, TakenFrom, GivenTo, GivesMore, IsFlushed, IsFlushedUnless, noted}
+use Rattle.lsp_threads.specs.Passing.{OfTaken, TakenFrom, GivenTo, GivesMore, IsFlushedUnless, noted}
 use Rattle.lsp_threads.specs.Pump.{Pumps}
 use Rattle.lsp_threads.specs.Threads.{ThreadsTellOver, WroteInThreads}
 use Rattle.lsp_threads.specs.declared.pumping.PumpFault.{PumpFault}

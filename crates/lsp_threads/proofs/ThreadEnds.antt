@@ -12,6 +12,7 @@ use Rattle.lsp_threads.specs.Contents.{ContentsGive, ContentsListen, Receiving}
 use Rattle.lsp_threads.specs.Replies.{Gathered, RepliesSend}
 use Rattle.lsp_threads.specs.ThreadEnds.{EndsGive, EndsListen, EndsSend, GivesNext, IsReadyToWait, KeepsLent}
 use Rattle.lsp_threads.specs.ThreadEnds.{LeavesOutbox, seen_of}
+use Rattle.lsp_threads.specs.Writes.{IsAmong, KeepsMarks}
 use Rattle.lsp_threads.specs.declared.thread_ends.ThreadEnds.{ThreadEnds}
 
 module _ {R L : Type 0} where
@@ -22,7 +23,9 @@ module _ {R L : Type 0} where
   left_on old mid new first second = (second.0 ∙ first.0, lent_on old mid new first.1 second.1)
 
   module _ (old mid new : ThreadEnds R L) (event : Event) (untaken : seen_of mid ≡ seen_of old)
-      (unsent : mid.outbox.now.replies ≡ old.outbox.now.replies) (ready : IsReadyToWait mid) (lent : KeepsLent old mid)
+      (unsent : mid.outbox.now.replies ≡ old.outbox.now.replies)
+      (marked : KeepsMarks old.outbox.now.marks mid.outbox.now.marks) (ready : IsReadyToWait mid)
+      (lent : KeepsLent old mid)
       (passes : L → ReadFault → L → Type 0) (gives : GivesNext passes mid event new) where
     -- a receive, once all was handed over that had to be
     pub ends_give : EndsGive passes old event new
@@ -30,6 +33,7 @@ module _ {R L : Type 0} where
       subst (λ (s : Receiving × L). ContentsGive passes s event (seen_of new)) untaken gives.0,
       ap (λ (b : Gathered). b.replies) gives.1.0 ∙ unsent,
       λ none. ap (λ (b : Gathered). b.held) gives.1.0 ∙ ready (ap (λ (s : Receiving × L). s.0.waiting) untaken ∙ none),
+      λ mark is. marked mark (subst (λ (b : Gathered). IsAmong mark b.marks) gives.1.0 is),
       lent_on old mid new lent gives.1.1,
     )
 
@@ -51,8 +55,8 @@ module _ {R L : Type 0} where
       let run = transport_runs (ContentsGive passes) RepliesSend (EndsGive passes) listens EndsSend
       (λ (b : ThreadEnds R L). (seen_of b, b.outbox.now.replies))
       (λ (b : ThreadEnds R L). (b.parts.ghost_name, b.policy.ghost_name, b.outbox.ghost_name))
-      (λ a event b gives. (gives.0, gives.1, rw (gives.3.0, gives.3.1, gives.3.2) refl))
-      (λ a m outcome b takes. (takes.0, takes.1, rw (takes.2.0, takes.2.1, takes.2.2) refl)) P old answer new
+      (λ a event b gives. (gives.0, gives.1, rw (gives.4.0, gives.4.1, gives.4.2) refl))
+      (λ a m outcome b takes. (takes.0, takes.1, rw (takes.3.0, takes.3.1, takes.3.2) refl)) P old answer new
       talks in
       let names = run.1 in (
         run.0,

@@ -1,8 +1,7 @@
 -- Frames that a relay carries as texts, several in one parcel.
-use Rattle.std.specs.Prelude.{◌≡◌, ◌<◌, ℕ, List, [], ◌∷◌, ◌++◌, length, Option, Some, None, Result, Ok, Err, String}
+use Rattle.std.specs.Prelude.{◌≡◌, ◌<◌, ℕ, List, [], ◌∷◌, ◌++◌, length, Option, Some, None, Result, Ok, Err}
 use Rattle.std.specs.Prelude.{string_bytes}
 use Rattle.std.specs.Io.KnownBytes.{Appends}
-use Rattle.std.specs.declared.alloc.Global.{Global}
 use Rattle.lsp_message.specs.Message as plain
 use Rattle.lsp_message.specs.Told.{Parts}
 use Rattle.lsp_message.specs.Written.{AppendsBeginning, IsFrameOf, IsOutput}
@@ -16,16 +15,17 @@ use Rattle.lsp_relay.specs.Relay.{Relay, ended, Sending}
 use Rattle.lsp_relay.specs.declared.ends.Parcel.{Parcel}
 use Rattle.lsp_relay.specs.declared.ends.Parcel.TheVariants as parcel
 use Rattle.lsp_threads.specs.Passing.{OfTaken, TakenFrom}
+use Rattle.lsp_threads.specs.declared.frame_text.FrameText.{FrameText}
 
 -- the bytes of the parcels, in order
-abbrev pub parcel_bytes : List (Parcel (String Global)) → List ℕ
+abbrev pub parcel_bytes : List (Parcel FrameText) → List ℕ
 parcel_bytes [] = []
-parcel_bytes (parcel.Message text ∷ rest) = string_bytes text ++ parcel_bytes rest
+parcel_bytes (parcel.Message t ∷ rest) = string_bytes t.text ++ parcel_bytes rest
 parcel_bytes (parcel.End ∷ rest) = parcel_bytes rest
 
 -- an outbox that gathers frames, as callers see it: the bytes that were sent, and those that wait to be sent
 pub record Framing : Type 0 where
-  pub relay : Relay (String Global)
+  pub relay : Relay FrameText
   pub bytes : List ℕ
 
 -- the outbox adds a frame of each message; if an allocation fails, nothing; it is never closed
@@ -36,8 +36,8 @@ FramingSends old m (Err (Closed back)) new = ⊥
 FramingSends old m (Err (Memory back)) new = new ≡ old
 
 -- texts were sent, and then End
-abbrev pub AreEnded : List (Parcel (String Global)) → Type 0
-AreEnded sent = (texts : List (String Global)) × (sent ≡ ended texts)
+abbrev pub AreEnded : List (Parcel FrameText) → Type 0
+AreEnded sent = (texts : List FrameText) × (sent ≡ ended texts)
 
 -- a loop over the messages of the text, whose content parts have at most so many bytes, hands on frames
 abbrev pub HandsSome : Limits → List ℕ → Framing → Framing → ReadEnd → Type 0
@@ -45,15 +45,15 @@ HandsSome limit text old new end = (left : Option (List ℕ))
     × Hands limit FramingSends text old new left end
 
 -- what was sent is those frames, and then End
-abbrev pub HandsFrames : Limits → List ℕ → Sending (String Global) → ReadEnd → Sending (String Global)
+abbrev pub HandsFrames : Limits → List ℕ → Sending FrameText → ReadEnd → Sending FrameText
     → Type 0
 HandsFrames limit text old end new = (mid : Framing) × (left : Option (List ℕ))
     × Hands limit FramingSends text (record { relay = old.relay; bytes = [] }) mid left end
     × (parcel_bytes new.sent ≡ mid.bytes) × AreEnded new.sent
 
 -- they are those of the bytes that were taken
-abbrev pub TellsFrames : Limits → Option (List ℕ) → Sending (String Global) → ReadEnd → Parts
-    → Sending (String Global) → Type 0
+abbrev pub TellsFrames : Limits → Option (List ℕ) → Sending FrameText → ReadEnd → Parts
+    → Sending FrameText → Type 0
 TellsFrames limit known old end taken new =
     OfTaken taken (λ text. HandsFrames limit text old end new) × TakenFrom known taken
 
@@ -77,6 +77,6 @@ Gathers before bytes left fault old new = (done : List ℕ) × (bytes ≡ done +
     × WritesUnlessFailed before done fault old new
 
 -- texts and then End were taken, and written
-abbrev pub WritesParcels : List (Parcel (String Global)) → Option WriteFault → Option (List ℕ)
+abbrev pub WritesParcels : List (Parcel FrameText) → Option WriteFault → Option (List ℕ)
     → Option (List ℕ) → Type 0
 WritesParcels taken fault old new = AreEnded taken × WritesBytes (parcel_bytes taken) fault old new

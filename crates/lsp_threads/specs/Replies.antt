@@ -1,6 +1,5 @@
 -- Replies as texts of frames on a relay: the outbox that gathers them, and what is written of all that it was offered.
-use Rattle.std.specs.Prelude.{◌≡◌, ℕ, Bool, true, false, List, ◌++◌, Option, Some, None, Result, Ok, Err, String}
-use Rattle.std.specs.declared.alloc.Global.{Global}
+use Rattle.std.specs.Prelude.{◌≡◌, ℕ, Bool, true, false, List, ◌++◌, Option, Some, None, Result, Ok, Err}
 use Rattle.lsp_message.specs.Message as plain
 use Rattle.lsp_message.specs.Written.{GetsFrames, IsFrameOf}
 use Rattle.lsp_message.specs.declared.frame.WriteFault.{WriteFault}
@@ -10,17 +9,21 @@ use Rattle.lsp_session.specs.Session.{Stop, refused}
 use Rattle.lsp_session.specs.declared.lifecycle.SendFault.{SendFault}
 use Rattle.lsp_session.specs.declared.lifecycle.SendFault.TheVariants.{Closed, Memory}
 use Rattle.lsp_threads.specs.Threads.{BreaksOffWithin, GetsFirst}
+use Rattle.lsp_threads.specs.Writes.{Mark}
+use Rattle.lsp_threads.specs.declared.frame_text.FrameText.{FrameText}
 
 -- an outbox that makes frames, as callers see it: the bytes that were sent, and whether a message was refused
 pub record Replying : Type 0 where
-  pub relay : Relay (String Global)
+  pub relay : Relay FrameText
   pub bytes : List ℕ
   pub failed : Bool
 
--- the same, of one that gathers frames, and the last of these bytes, which are held and not handed over yet
+-- The same, of one that gathers frames: the last of these bytes, which are held and not handed over yet; and what had
+-- been taken when the last frame of each text was made.
 pub record Gathered : Type 0 where
   pub replies : Replying
   pub held : List ℕ
+  pub marks : List Mark
 
 -- For private clauses: these bytes were sent, and no message was refused.
 abbrev pub AddsBytes : Replying → List ℕ → Replying → Type 0

@@ -1,8 +1,8 @@
 //! The receiver's end of a relay of content parts, several of which arrive in one parcel. It returns them one after
 //! another.
 ghost use Rattle.std.specs.Prelude.{◌≡◌, [], false};
-ghost use Rattle.lsp_relay.specs.Relay.{has_end};
-ghost use Rattle.lsp_threads.specs.Contents.{bytes_of, parts_of, NextIs};
+ghost use Rattle.lsp_relay.specs.Relay.{has_end, IsLearned};
+ghost use Rattle.lsp_threads.specs.Contents.{bytes_of, parts_of, MaySend, NextIs};
 
 use crate::backlog::Takes;
 use crate::content_batch::{ContentsRx, weight};
@@ -103,6 +103,16 @@ impl<R: Wait + Drop> ContentParts<R> {
         R: Copy,
     {
         self.rt
+    }
+
+    /// Copies the trace of the bytes that were taken from the reader, up to the end of the last parcel. It also states
+    /// that the parcels that were taken follow the relay's plan.
+    pub fn so_far(&self) -> ByteTrace
+        ensures account { result.parts ≡ parts_of self.now.taken }
+        ensures learned { IsLearned MaySend self.now.relay.1 self.now.relay.2 self.now.taken self.now.wakes }
+    {
+        self.rx.learn();
+        self.taken.so_far()
     }
 
     /// Takes the next content part or a wake-up, and waits for it.

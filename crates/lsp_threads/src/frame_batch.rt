@@ -5,9 +5,12 @@ ghost use Rattle.lsp_message.specs.View.{message_view};
 ghost use Rattle.lsp_relay.specs.Relay.{IsOpen};
 ghost use Rattle.lsp_threads.specs.Framing.{parcel_bytes, AreEnded, FramingSends, Gathers, WritesBytes, WritesParcels};
 ghost use Rattle.lsp_threads.specs.Passing.{GivesMore, IsFlushed, IsFlushedUnless, noted};
+ghost use Rattle.lsp_threads.specs.Writes.{AddsMark, AllWrites, EndsAtMark, NotesWrite, marks_of};
 
 use crate::backlog::{Backlog, Takes};
+use crate::frame_text::FrameText;
 use crate::parcels::{collect, deliver};
+use crate::write_trace::WriteTrace;
 use lsp_message::{ByteTrace, Message, WriteFault, write_frames_traced};
 use lsp_relay::{Parcel, RelayRx, RelayTx, Taken};
 use std::alloc::{AllocError, Global};
@@ -26,7 +29,7 @@ const FULL_PARCEL: usize = 65536;
 pub struct FrameBatch<R: Wait + Drop> {
     rt: R,
     alloc: Global,
-    tx: RelayTx<String>,
+    tx: RelayTx<FrameText>,
     unwritten: Backlog,
     pending: String,
 }
@@ -45,7 +48,7 @@ impl<R: Wait + Drop> Model for FrameBatch<R> {
 }
 
 impl<R: Wait + Drop> FrameBatch<R> {
-    pub fn new(rt: R, alloc: Global, tx: RelayTx<String>, unwritten: Backlog) -> FrameBatch<R>
+    pub fn new(rt: R, alloc: Global, tx: RelayTx<FrameText>, unwritten: Backlog) -> FrameBatch<R>
         requires { tx.sent ≡ [] }
         ensures { result ≡ record { relay = tx.relay; bytes = [] } }
     {
@@ -87,7 +90,7 @@ impl<R: Wait + Drop> FrameBatch<R> {
     {
         let text = mem::replace(&mut self.pending, String::new(self.alloc));
         self.unwritten.add(&self.rt, text.len() as u64);
-        deliver_text(&self.rt, &mut self.tx, text);
+        deliver_text(&self.rt, &mut self.tx, text, ByteTrace::new());
     }
 
     /// Sends the gathered frames, unless the next message is available and the parcel is not full.
@@ -100,7 +103,7 @@ impl<R: Wait + Drop> FrameBatch<R> {
     }
 
     /// Sends the gathered frames and then End, and returns the relay's end.
-    pub fn finish(self) -> RelayTx<String>
+    pub fn finish(self) -> RelayTx<FrameText>
         ensures relay { result.relay ≡ self.relay }
         ensures bytes { parcel_bytes result.sent ≡ self.bytes }
         ensures ended { AreEnded result.sent }
@@ -113,56 +116,69 @@ impl<R: Wait + Drop> FrameBatch<R> {
             pending,
         } = self;
         unwritten.add(&rt, pending.len() as u64);
-        deliver_text(&rt, &mut tx, pending);
+        deliver_text(&rt, &mut tx, pending, ByteTrace::new());
         deliver(&rt, &mut tx, Parcel::End);
         tx
     }
 }
 
-/// Sends a text as one parcel, unless it is empty.
-pub fn deliver_text<R: Wait>(rt: &R, tx: &mut RelayTx<String>, text: String)
+/// Sends a text as one parcel, unless it is empty, with a trace of what had been taken when its last frame was made.
+pub fn deliver_text<R: Wait>(rt: &R, tx: &mut RelayTx<FrameText>, text: String, taken: ByteTrace)
     requires { IsOpen tx.old.sent }
     ensures relay { tx.new.relay ≡ tx.old.relay }
     ensures bytes { parcel_bytes tx.new.sent ≡ parcel_bytes tx.old.sent ++ string_bytes text }
     ensures still_open { IsOpen tx.new.sent }
+    ensures marks { AddsMark (marks_of tx.old.sent) taken.parts (parcel_bytes tx.old.sent ++ string_bytes text)
+        (marks_of tx.new.sent) }
 {
     if !text.is_empty() {
-        deliver(rt, tx, Parcel::Message(text));
+        deliver(rt, tx, Parcel::Message(FrameText { text, taken }));
     }
 }
 
 /// Writes each text up to End. Texts that wait together are one write, and it waits for a text only when it has written
 /// all that it took. After a fault it writes nothing more, and drops the texts. It records the bytes that the writer
-/// takes, and reports which bytes, written or dropped, no longer wait.
+/// takes, and where each write begins. It reports which bytes, written or dropped, no longer wait.
 pub fn write_texts<R: Wait, W: Write>(
     rt: &R,
     alloc: Global,
-    rx: RelayRx<String>,
+    rx: RelayRx<FrameText>,
     writer: &mut W,
     given: &mut ByteTrace,
+    order: &mut WriteTrace,
     takes: &Takes,
-) -> (RelayRx<String>, Option<WriteFault>)
+) -> (RelayRx<FrameText>, Option<WriteFault>)
     requires { rx.taken ≡ [] }
     ensures relay { result.0.relay ≡ rx.relay }
     ensures written { WritesParcels result.0.taken result.1 (noted given.old) (noted given.new) }
     ensures given { GivesMore given.old.parts given.new.parts (W.contents writer.old) (W.contents writer.new) }
     ensures flushed { IsFlushed given.old.parts → IsFlushedUnless result.1 given.new.parts }
+    ensures order { given.old.parts ≡ [] → order.old ≡ []
+        → AllWrites (EndsAtMark (marks_of result.0.taken)) order.new given.new.parts }
 {
     let mut rx = rx;
     let mut fault = None;
     let mut pending = String::new(alloc);
+    let mut last = ByteTrace::new();
     for _ in rt.forever() {
         match next_parcel(rt, &mut rx, pending.is_empty()) {
-            Some(Parcel::Message(text)) => {
+            Some(Parcel::Message(next)) => {
+                let FrameText { text, taken } = next;
                 let held = pending.len().wrapping_add(text.len());
-                let (left, first_fault) = gather(fault, pending, text, writer, given);
+                let (left, first_fault) = gather(fault, pending, text, &last, writer, given, order);
                 takes.took(rt, held.wrapping_sub(left.len()) as u64);
                 pending = left;
+                last = taken;
                 fault = first_fault;
             }
-            Some(Parcel::End) => return (rx, write_after(fault, &pending, writer, given)),
+            Some(Parcel::End) => {
+                return (
+                    rx,
+                    write_after(fault, &pending, &last, writer, given, order),
+                );
+            }
             None => {
-                fault = write_after(fault, &pending, writer, given);
+                fault = write_after(fault, &pending, &last, writer, given, order);
                 takes.took(rt, pending.len() as u64);
                 pending = String::new(alloc);
             }
@@ -187,24 +203,29 @@ fn next_parcel<R: Wait, M: Drop>(rt: &R, rx: &mut RelayRx<M>, waits: bool) -> Op
 }
 
 /// Adds a text after those that are not written. If it can't join them, the others are written first, unless a write
-/// failed before. Returns the texts that are left, and the first fault.
+/// failed before. Their last frame was made when `taken` had been taken. Returns the texts that are left, and the first
+/// fault.
 fn gather<W: Write>(
     before: Option<WriteFault>,
     pending: String,
     text: String,
+    taken: &ByteTrace,
     writer: &mut W,
     given: &mut ByteTrace,
+    order: &mut WriteTrace,
 ) -> (String, Option<WriteFault>)
     ensures gathered { Gathers before (string_bytes pending ++ string_bytes text)
         (string_bytes result.0) result.1 (noted given.old) (noted given.new) }
     ensures given { GivesMore given.old.parts given.new.parts (W.contents writer.old) (W.contents writer.new) }
     ensures flushed { IsFlushedUnless before given.old.parts → IsFlushedUnless result.1 given.new.parts }
+    ensures order { NotesWrite before (string_bytes pending) taken.now.parts given.old.parts given.new.parts
+        order.old order.new }
 {
     let mut pending = pending;
     if joins(&mut pending, &text) {
         return (pending, before);
     }
-    let fault = write_after(before, pending.as_str(), writer, given);
+    let fault = write_after(before, pending.as_str(), taken, writer, given, order);
     (text, fault)
 }
 
@@ -223,21 +244,26 @@ pub fn joins(pending: &mut String, text: &str) -> bool
     }
 }
 
-/// Writes a text, unless a write failed before. Returns the first fault.
+/// Writes a text, unless a write failed before. Its last frame was made when `taken` had been taken. Returns the first
+/// fault.
 fn write_after<W: Write>(
     before: Option<WriteFault>,
     text: &str,
+    taken: &ByteTrace,
     writer: &mut W,
     given: &mut ByteTrace,
+    order: &mut WriteTrace,
 ) -> Option<WriteFault>
     ensures none { before ≡ None → WritesBytes text.now result (noted given.old) (noted given.new) }
     ensures some { OnSome before ((result ≡ before) × (given.new ≡ given.old)) }
     ensures silent { OnSome before (writer.new ≡ writer.old) }
     ensures given { GivesMore given.old.parts given.new.parts (W.contents writer.old) (W.contents writer.new) }
     ensures flushed { IsFlushedUnless before given.old.parts → IsFlushedUnless result given.new.parts }
+    ensures order { NotesWrite before text.now taken.now.parts given.old.parts given.new.parts order.old order.new }
 {
     if before.is_some() || text.is_empty() {
         return before;
     }
+    order.begin(taken, given);
     write_frames_traced(writer, text, given).err()
 }

@@ -7,6 +7,7 @@ mod content_batch;
 mod content_parts;
 mod content_reader;
 mod frame_batch;
+mod frame_text;
 pub mod give_back;
 mod goes_on;
 pub mod laws;
@@ -20,6 +21,7 @@ mod serving;
 mod thread_ends;
 mod watched_writer;
 mod workers;
+mod write_trace;
 
 pub use content_batch::{Contents, ContentsPlan, ContentsRx, ContentsTx};
 pub use pumping::{PumpFault, PumpOutcome, pump, pump_traced, pump_with, pump_within};
@@ -28,3 +30,4 @@ pub use run::{
     run_in_threads_over, run_threads, run_threads_within,
 };
 pub use workers::StartFault;
+pub use write_trace::WriteTrace;

@@ -5,6 +5,7 @@ ghost use Rattle.lsp_threads.specs.Passing.{OfTaken, TakenFrom};
 
 use crate::backlog::Backlog;
 use crate::frame_batch::FrameBatch;
+use crate::frame_text::FrameText;
 use crate::peeking_reader::PeekingReader;
 use crate::workers::ReadsInto;
 use lsp_message::{ByteTrace, Limits, Message, ReadFault};
@@ -49,7 +50,7 @@ fn read_frames<R: Wait + Drop, S: BufRead>(
     ReadEnd::Fault(ReadFault::Input(ErrorKind::Other))
 }
 
-impl ReadsInto for RelayTx<String> {
+impl ReadsInto for RelayTx<FrameText> {
     ghost use Rattle.std.specs.Prelude.{◌≡◌, []};
     ghost use Rattle.lsp_threads.specs.Framing.{TellsFrames};
 
@@ -66,7 +67,7 @@ impl ReadsInto for RelayTx<String> {
         reader: S,
         limits: Limits,
         backlog: Backlog,
-    ) -> (RelayTx<String>, ReadEnd, ByteTrace)
+    ) -> (RelayTx<FrameText>, ReadEnd, ByteTrace)
         requires { self.sent ≡ [] }
         ensures relay { result.0.relay ≡ self.relay }
         ensures told { TellsFrames limits (S.remaining reader) self result.1 result.2.parts result.0 }

@@ -6,7 +6,9 @@ ghost use Rattle.lsp_threads.specs.Pump.{PumpFlushes, Pumps, pump_answer};
 
 use crate::backlog::bounded_backlog;
 use crate::frame_batch::write_texts;
+use crate::frame_text::FrameText;
 use crate::workers::{StartFault, start_reader};
+use crate::write_trace::WriteTrace;
 use lsp_message::{ByteTrace, Limits, ReadFault, WriteFault};
 use lsp_relay::{AnyPlan, RelayTx, relay, settle_all};
 use lsp_session::ReadEnd;
@@ -156,20 +158,21 @@ where
     ensures given { GivenTo (W.contents writer.old) result.given.parts (W.contents writer.new) }
     ensures flushed { PumpFlushes result.answer result.given.parts }
 {
-    let Ok((tx, rx)) = relay::<String, AnyPlan>(alloc, PARCEL_ROOM) else {
+    let Ok((tx, rx)) = relay::<FrameText, AnyPlan>(alloc, PARCEL_ROOM) else {
         return not_started(StartFault::Memory);
     };
     let Ok((backlog, takes)) = bounded_backlog(alloc, UNWRITTEN) else {
         return not_started(StartFault::Memory);
     };
-    let reading = match start_reader::<RelayTx<String>, T, R>(
+    let reading = match start_reader::<RelayTx<FrameText>, T, R>(
         rt, builder, alloc, reader, limits, tx, backlog,
     ) {
         Ok(reading) => reading,
         Err(fault) => return not_started(fault),
     };
     let mut given = ByteTrace::new();
-    let (rx, unwritten) = write_texts(rt, alloc, rx, writer, &mut given, &takes);
+    let mut order = WriteTrace::new();
+    let (rx, unwritten) = write_texts(rt, alloc, rx, writer, &mut given, &mut order, &takes);
     let (tx, read, taken) = reading.join(rt);
     settle_all(rt, rx, tx);
     PumpOutcome {

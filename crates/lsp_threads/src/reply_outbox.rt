@@ -1,5 +1,5 @@
 //! The outbox of a session with a writing thread. It makes frames, gathers them, and passes them on as texts.
-ghost use Rattle.std.specs.Prelude.{◌≡◌, ◌++◌, [], false, Ok, IfErr, IfOk, string_bytes};
+ghost use Rattle.std.specs.Prelude.{◌≡◌, ◌++◌, ◌∷◌, [], false, Ok, IfErr, IfOk, string_bytes};
 ghost use Rattle.serde_json.specs.Data.{null};
 ghost use Rattle.serde_json.specs.View.{view};
 ghost use Rattle.lsp_message.specs.Message.{response};
@@ -8,12 +8,14 @@ ghost use Rattle.lsp_message.specs.Written.{IsFrameOf};
 ghost use Rattle.lsp_session.specs.Boxes.{handed_back};
 ghost use Rattle.lsp_threads.specs.Framing.{parcel_bytes, AreEnded};
 ghost use Rattle.lsp_threads.specs.Replies.{AddsBytes, RepliesSend, reply_fault as reply_fault_spec};
+ghost use Rattle.lsp_threads.specs.Writes.{AddsMark, KeepsMarks, marks_of};
 
 use crate::backlog::Backlog;
 use crate::frame_batch::{deliver_text, joins};
+use crate::frame_text::FrameText;
 use crate::parcels::deliver;
 use crate::watched_writer::WriteFaults;
-use lsp_message::{Message, RequestId, ResultText, WriteFault};
+use lsp_message::{ByteTrace, Message, RequestId, ResultText, WriteFault};
 use lsp_relay::{Parcel, RelayTx};
 use lsp_session::{SendFault, null_response};
 use std::alloc::Global;
@@ -33,10 +35,12 @@ const FULL_TEXT: usize = 8192;
 pub struct ReplyOutbox<R: Wait + Drop> {
     rt: R,
     alloc: Global,
-    tx: RelayTx<String>,
+    tx: RelayTx<FrameText>,
     unwritten: Backlog,
     /// Frames that were gathered and not passed on yet.
     held: String,
+    /// What had been taken from the reader when the last frame was made.
+    taken: ByteTrace,
     /// Whether the next frame is gathered.
     gathers: bool,
     /// Whether a message was refused.
@@ -49,6 +53,7 @@ impl<R: Wait + Drop> Model for ReplyOutbox<R> {
     ghost use Rattle.lsp_relay.specs.Relay.{IsOpen};
     ghost use Rattle.lsp_threads.specs.Framing.{parcel_bytes};
     ghost use Rattle.lsp_threads.specs.Replies.{Gathered};
+    ghost use Rattle.lsp_threads.specs.Writes.{all_marks};
 
     ghost Value = { Gathered };
 
@@ -60,6 +65,7 @@ impl<R: Wait + Drop> Model for ReplyOutbox<R> {
             failed = b.failed;
           };
           held = string_bytes b.held;
+          marks = all_marks b.tx.sent b.taken.parts (string_bytes b.held);
         } };
 
     ghost invariant = { λ b. IsOpen b.tx.sent };
@@ -69,7 +75,7 @@ impl<R: Wait + Drop> ReplyOutbox<R> {
     pub fn new(
         rt: R,
         alloc: Global,
-        tx: RelayTx<String>,
+        tx: RelayTx<FrameText>,
         unwritten: Backlog,
         faults: WriteFaults,
     ) -> ReplyOutbox<R>
@@ -77,6 +83,7 @@ impl<R: Wait + Drop> ReplyOutbox<R> {
         ensures { result ≡ record {
           replies = record { relay = tx.relay; bytes = []; failed = false };
           held = [];
+          marks = record { taken = []; bytes = [] } ∷ [];
         } }
     {
         ReplyOutbox {
@@ -85,15 +92,17 @@ impl<R: Wait + Drop> ReplyOutbox<R> {
             tx,
             unwritten,
             held: String::new(alloc),
+            taken: ByteTrace::new(),
             gathers: false,
             failed: false,
             faults,
         }
     }
 
-    /// Sends a message. The fault means that it was refused, and returns it.
-    pub fn send(&mut self, message: Message) -> Result<(), SendFault>
+    /// Sends a message, which is made when `taken` has been taken. The fault means that it was refused, and returns it.
+    pub fn send(&mut self, message: Message, taken: ByteTrace) -> Result<(), SendFault>
         ensures sends { RepliesSend self.old.replies (message_view message) result self.new.replies }
+        ensures marks { AddsMark self.old.marks taken.parts self.new.replies.bytes self.new.marks }
         ensures handed_back { IfErr result (λ fault. handed_back fault ≡ message) }
     {
         if self.failed || self.faults.any() {
@@ -102,7 +111,7 @@ impl<R: Wait + Drop> ReplyOutbox<R> {
         }
         match framed(self.alloc, message) {
             Ok(frame) => {
-                self.gather(frame);
+                self.gather(frame, taken);
                 Ok(())
             }
             Err(message) => {
@@ -112,10 +121,16 @@ impl<R: Wait + Drop> ReplyOutbox<R> {
         }
     }
 
-    /// Sends a response whose result is text already. The fault means that it was refused, and returns the response
-    /// with null as its result.
-    pub fn send_text(&mut self, id: RequestId, text: ResultText) -> Result<(), SendFault>
+    /// Sends a response whose result is text already, when `taken` has been taken. The fault means that it was refused,
+    /// and returns the response with null as its result.
+    pub fn send_text(
+        &mut self,
+        id: RequestId,
+        text: ResultText,
+        taken: ByteTrace,
+    ) -> Result<(), SendFault>
         ensures sends { RepliesSend self.old.replies (response id (Ok (view text))) result self.new.replies }
+        ensures marks { AddsMark self.old.marks taken.parts self.new.replies.bytes self.new.marks }
         ensures handed_back { IfErr result (λ fault. message_view (handed_back fault) ≡ response id (Ok null)) }
     {
         if self.failed || self.faults.any() {
@@ -125,7 +140,7 @@ impl<R: Wait + Drop> ReplyOutbox<R> {
         }
         match text.into_frame(self.alloc, &id) {
             Ok(frame) => {
-                self.gather(frame);
+                self.gather(frame, taken);
                 drop(id);
                 Ok(())
             }
@@ -136,27 +151,42 @@ impl<R: Wait + Drop> ReplyOutbox<R> {
         }
     }
 
-    /// Adds a frame after those that wait. Frames that do not fit together are passed on before, and all of them unless
-    /// frames are gathered.
-    fn gather(&mut self, frame: String)
-        ensures { AddsBytes self.old.replies (string_bytes frame) self.new.replies }
+    /// Adds a frame after those that wait, and passes on all of them unless frames are gathered.
+    fn gather(&mut self, frame: String, taken: ByteTrace)
+        ensures adds { AddsBytes self.old.replies (string_bytes frame) self.new.replies }
+        ensures marks { AddsMark self.old.marks taken.parts self.new.replies.bytes self.new.marks }
     {
-        if !joins(&mut self.held, &frame) {
-            self.hand_over();
-            self.held = frame;
+        self.hold(frame, taken);
+        if self.gathers && self.held.len() < FULL_TEXT {
+            return;
         }
-        if !self.gathers || self.held.len() >= FULL_TEXT {
-            self.hand_over();
+        self.hand_over();
+    }
+
+    /// Adds a frame after those that wait. Frames with which it does not fit together are passed on before.
+    fn hold(&mut self, frame: String, taken: ByteTrace)
+        ensures adds { AddsBytes self.old.replies (string_bytes frame) self.new.replies }
+        ensures marks { AddsMark self.old.marks taken.parts self.new.replies.bytes self.new.marks }
+    {
+        if joins(&mut self.held, &frame) {
+            self.taken = taken;
+            return;
         }
+        self.hand_over();
+        self.held = frame;
+        self.taken = taken;
     }
 
     /// Passes on the frames that wait, as one text.
     fn hand_over(&mut self)
-        ensures { self.new ≡ record self.old { held = [] } }
+        ensures replies { self.new.replies ≡ self.old.replies }
+        ensures held { self.new.held ≡ [] }
+        ensures marks { KeepsMarks self.old.marks self.new.marks }
     {
         let text = mem::replace(&mut self.held, String::new(self.alloc));
         self.unwritten.add(&self.rt, text.len() as u64);
-        deliver_text(&self.rt, &mut self.tx, text);
+        let taken = self.taken.so_far();
+        deliver_text(&self.rt, &mut self.tx, text, taken);
     }
 
     /// Gathers frames from now on, if more content parts are available. Otherwise it passes on the frames that wait,
@@ -164,6 +194,7 @@ impl<R: Wait + Drop> ReplyOutbox<R> {
     pub fn go_on(&mut self, at_hand: bool)
         ensures replies { self.new.replies ≡ self.old.replies }
         ensures ready { at_hand ≡ false → self.new.held ≡ [] }
+        ensures marks { KeepsMarks self.old.marks self.new.marks }
     {
         self.gathers = at_hand;
         if !at_hand {
@@ -172,11 +203,12 @@ impl<R: Wait + Drop> ReplyOutbox<R> {
     }
 
     /// Sends the frames that wait and then End, and returns the relay's end, and whether a message was refused.
-    pub fn finish(self) -> (RelayTx<String>, bool)
+    pub fn finish(self) -> (RelayTx<FrameText>, bool)
         ensures relay { result.0.relay ≡ self.replies.relay }
         ensures bytes { parcel_bytes result.0.sent ≡ self.replies.bytes }
         ensures ended { AreEnded result.0.sent }
         ensures failed { result.1 ≡ self.replies.failed }
+        ensures marks { KeepsMarks self.marks (marks_of result.0.sent) }
     {
         let ReplyOutbox {
             rt,
@@ -184,12 +216,13 @@ impl<R: Wait + Drop> ReplyOutbox<R> {
             mut tx,
             mut unwritten,
             held,
+            taken,
             gathers: _,
             failed,
             faults: _,
         } = self;
         unwritten.add(&rt, held.len() as u64);
-        deliver_text(&rt, &mut tx, held);
+        deliver_text(&rt, &mut tx, held, taken);
         deliver(&rt, &mut tx, Parcel::End);
         (tx, failed)
     }

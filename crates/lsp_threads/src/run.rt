@@ -1,15 +1,17 @@
 //! Sessions with a reading thread and a writing thread: of a handler, and of any application.
 ghost use Rattle.serde_json.specs.View.{view};
-ghost use Rattle.std.specs.Prelude.{◌≡◌, [], IfOk, IfSome, OnErr, Some};
+ghost use Rattle.std.specs.Prelude.{◌≡◌, [], false, IfOk, IfSome, OnErr, Some};
 ghost use Rattle.lsp_message.specs.Frame.{no_limit, of_content};
 ghost use Rattle.lsp_session.specs.HandlerSession.{of_handler};
 ghost use Rattle.lsp_session.specs.Session.{SessionOut};
+ghost use Rattle.lsp_threads.specs.Order.{TellsInOrder, ThreadsGiveInOrder};
 ghost use Rattle.lsp_threads.specs.Passing.{GivenTo, OfTaken, TakenFrom, noted};
 ghost use Rattle.lsp_threads.specs.Threads.{FlushesInThreads, ThreadsGive, ThreadsTell, ThreadsTellOver};
 
 use crate::content_batch::{Contents, ContentsPlan, ContentsRx, ContentsTx};
 use crate::serving::{serve_between, start_both};
 use crate::workers::{ROOM, StartFault};
+use crate::write_trace::WriteTrace;
 use lsp_message::{ByteTrace, Limits};
 use lsp_relay::relay;
 use lsp_session::{
@@ -36,6 +38,9 @@ pub struct Threaded<W> {
     /// The bytes that the writer took.
     #[derive_where(skip)]
     pub given: ByteTrace,
+    /// For each write, what had been taken from the reader and given to the writer when it began.
+    #[derive_where(skip)]
+    pub order: WriteTrace,
     /// How the session ended.
     pub answer: Result<SessionEnd, SessionFault>,
 }
@@ -106,7 +111,8 @@ impl ThreadOptions {
 /// - The clause `told` holds for every reader and writer, including standard input and a socket. It says what `session`
 ///   says, for each text that begins with the bytes that were taken, and for a writer that began empty. If the reader
 ///   showed its end, there is only one such text. `passed` says that these are the bytes that were read and written, if
-///   they are known. No clause says in which order bytes were taken and given.
+///   they are known. `order` adds that no frame is given before the message that it answers was taken, and `flushed`
+///   that all that was given was flushed, unless a write or a flush failed.
 pub fn run_threads<T, R, W, H>(
     rt: &T,
     alloc: Global,
@@ -125,6 +131,10 @@ where
         ThreadsGive no_limit
         (SessionOut (of_handler H.answer_post H.note_post (view capabilities)) handler.old handler.new)
         text (Some []) (noted done.given) done.answer)) }
+    ensures order { IfOk result (λ done. OfTaken done.taken.parts (λ text.
+        ThreadsGiveInOrder no_limit (R.remaining reader)
+        (SessionOut (of_handler H.answer_post H.note_post (view capabilities)) handler.old handler.new)
+        text done.order done.given.parts done.answer)) }
     ensures passed { IfOk result (λ done. TakenFrom (R.remaining reader) done.taken.parts
         × GivenTo (W.contents writer) done.given.parts (W.contents done.writer)) }
     ensures flushed { IfOk result (λ done. FlushesInThreads done.answer done.given.parts) }
@@ -158,6 +168,10 @@ where
         ThreadsGive (of_content limit)
         (SessionOut (of_handler H.answer_post H.note_post (view capabilities)) handler.old handler.new)
         text (Some []) (noted done.given) done.answer)) }
+    ensures order { IfOk result (λ done. OfTaken done.taken.parts (λ text.
+        ThreadsGiveInOrder (of_content limit) (R.remaining reader)
+        (SessionOut (of_handler H.answer_post H.note_post (view capabilities)) handler.old handler.new)
+        text done.order done.given.parts done.answer)) }
     ensures passed { IfOk result (λ done. TakenFrom (R.remaining reader) done.taken.parts
         × GivenTo (W.contents writer) done.given.parts (W.contents done.writer)) }
     ensures flushed { IfOk result (λ done. FlushesInThreads done.answer done.given.parts) }
@@ -187,9 +201,9 @@ where
 
 /// Runs a session of an application (LSP 3.17, "Server lifecycle") with a reading thread, a writing thread and the
 /// application on the caller's thread, and returns its result. Call this if your server is to read on while it works.
-/// `StreamTransport::serve` of `lsp_session` does the same on one thread. It also says in which order bytes were taken
-/// and given, which no clause says here. In every schedule the answer and the bytes that are written are those that a
-/// session allows.
+/// `StreamTransport::serve` of `lsp_session` does the same on one thread, and says of all bytes in which order they were
+/// taken and given. In every schedule the answer and the bytes that are written are those that a session allows. The
+/// clause `order` says that no frame is given before the message that it answers was taken.
 ///
 /// The start, the faults, the gathering of replies and the end are those of `run_threads`, except for content parts
 /// that are no messages. A `StartFault` means that a thread was not started, or that an allocation failed. Then nothing
@@ -220,6 +234,10 @@ where
     ensures told { IfOk result (λ done. OfTaken done.taken.parts (λ text.
         ThreadsTell L.passes options.limits (A.session application.old application.new) text
         policy.old policy.new (Some []) (noted done.given) done.answer)) }
+    ensures order { IfOk result (λ done. OfTaken done.taken.parts (λ text.
+        TellsInOrder false L.passes options.limits (R.remaining reader) policy.old
+        (A.session application.old application.new) text
+        policy.new done.order done.given.parts done.answer)) }
     ensures passed { IfOk result (λ done. TakenFrom (R.remaining reader) done.taken.parts
         × GivenTo (W.contents writer) done.given.parts (W.contents done.writer)) }
     ensures flushed { IfOk result (λ done. FlushesInThreads done.answer done.given.parts) }
@@ -273,6 +291,10 @@ where
         ThreadsTellOver ends.0.wakeable L.passes options.limits
         (A.session application.old application.new) text
         policy.old policy.new (Some []) (noted done.given) done.answer)) }
+    ensures order { IfOk result (λ done. OfTaken done.taken.parts (λ text.
+        TellsInOrder ends.0.wakeable L.passes options.limits (R.remaining reader) policy.old
+        (A.session application.old application.new) text
+        policy.new done.order done.given.parts done.answer)) }
     ensures passed { IfOk result (λ done. TakenFrom (R.remaining reader) done.taken.parts
         × GivenTo (W.contents writer) done.given.parts (W.contents done.writer)) }
     ensures flushed { IfOk result (λ done. FlushesInThreads done.answer done.given.parts) }

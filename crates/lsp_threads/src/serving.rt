@@ -1,18 +1,21 @@
 //! The session between the two threads, and how they are started.
 ghost use Rattle.std.specs.Prelude.{◌≡◌, [], IfOk, Some};
 ghost use Rattle.lsp_threads.specs.Contents.{LeavesReading, source_of};
+ghost use Rattle.lsp_threads.specs.Order.{TellsInOrder};
 ghost use Rattle.lsp_threads.specs.Passing.{GivenTo, OfTaken, TakenFrom, noted};
 ghost use Rattle.lsp_threads.specs.Threads.{FlushesInThreads, ThreadsTellOver, session_end as session_end_spec};
 
 use crate::backlog::{Backlog, Takes, bounded_backlog};
 use crate::content_batch::{Contents, ContentsPlan, ContentsRx, ContentsTx};
 use crate::content_parts::ContentParts;
+use crate::frame_text::FrameText;
 use crate::parcels::deliver;
 use crate::reply_outbox::{ReplyOutbox, reply_fault};
 use crate::run::{ThreadOptions, Threaded};
 use crate::thread_ends::{ThreadEnds, serve_ends};
 use crate::watched_writer::{WatchedWriter, WriteFaults, write_faults};
 use crate::workers::{ROOM, Reader, StartFault, Writer, start_reader, start_writer};
+use crate::write_trace::WriteTrace;
 use lsp_message::{ByteTrace, Limits, ReadFault, WriteFault};
 use lsp_relay::{AnyPlan, Parcel, RelayRx, RelayTx, Source, plan, relay, settle_all};
 use lsp_session::{Application, BadContentPolicy, ReadEnd, session_answer};
@@ -31,12 +34,13 @@ pub(crate) type Reading<R> = PromisedHandle<
 /// The thread that writes.
 pub(crate) type Writing<W> = PromisedHandle<
     (
-        RelayRx<String>,
+        RelayRx<FrameText>,
         WatchedWriter<W>,
         Option<WriteFault>,
         ByteTrace,
+        WriteTrace,
     ),
-    Writer<WatchedWriter<W>, String>,
+    Writer<WatchedWriter<W>, FrameText>,
 >;
 
 /// The two threads, and the caller's ends of their relays.
@@ -44,7 +48,7 @@ pub(crate) type Writing<W> = PromisedHandle<
 pub(crate) struct Workers<R: BufRead + Drop, W: Write + Drop> {
     pub(crate) rx: ContentsRx,
     pub(crate) takes: Takes,
-    pub(crate) replies: RelayTx<String>,
+    pub(crate) replies: RelayTx<FrameText>,
     pub(crate) unwritten: Backlog,
     pub(crate) reading: Reading<R>,
     pub(crate) writing: Writing<W>,
@@ -79,7 +83,7 @@ where
         × (workers.writing.promise.rx.value.relay ≡ workers.replies.relay)
         × (workers.writing.promise.writer.value.inner ≡ writer)) }
 {
-    let Ok((replies, replies_rx)) = relay::<String, AnyPlan>(alloc, ROOM) else {
+    let Ok((replies, replies_rx)) = relay::<FrameText, AnyPlan>(alloc, ROOM) else {
         return Err(StartFault::Memory);
     };
     let Ok((unread, takes)) = bounded_backlog(alloc, options.unread) else {
@@ -93,7 +97,7 @@ where
     };
     let (mut tx, mut rx) = ends;
     plan_reading::<R, Brand>(&mut tx, &mut rx, &reader, options.limits);
-    let writing = match start_writer::<String, T, WatchedWriter<W>>(
+    let writing = match start_writer::<FrameText, T, WatchedWriter<W>>(
         rt,
         options.writer,
         alloc,
@@ -154,7 +158,7 @@ fn plan_reading<R: BufRead, W: Source>(
 /// Ends the thread that writes, which has nothing to write.
 fn end_writing<T: Threads + Wait, W: Write + Drop>(
     rt: &T,
-    replies: RelayTx<String>,
+    replies: RelayTx<FrameText>,
     writing: Writing<W>,
 )
     requires { replies.sent ≡ [] }
@@ -190,6 +194,11 @@ where
         ThreadsTellOver workers.reading.promise.tx.value.wakeable L.passes
         workers.reading.promise.limits (A.session application.old application.new) text
         policy.old policy.new (Some []) (noted result.given) result.answer) }
+    ensures order { OfTaken result.taken.parts (λ text.
+        TellsInOrder workers.reading.promise.tx.value.wakeable L.passes
+        workers.reading.promise.limits (R.remaining workers.reading.promise.reader.value)
+        policy.old (A.session application.old application.new) text
+        policy.new result.order result.given.parts result.answer) }
     ensures taken { TakenFrom (R.remaining workers.reading.promise.reader.value)
         result.taken.parts }
     ensures given { GivenTo (W.contents workers.writing.promise.writer.value.inner)
@@ -214,7 +223,7 @@ where
     let at_exit = matches!(ended, Some(ReadEnd::Exit));
     let (replies, failed) = outbox.finish();
     let (read, taken) = leave_reading(rt, parts, reading, at_exit);
-    let (replies_rx, watched, unwritten, given) = writing.join(rt);
+    let (replies_rx, watched, unwritten, given, order) = writing.join(rt);
     let writer = watched.inner;
     settle_all(rt, replies_rx, replies);
     let fault = reply_fault(unwritten, failed);
@@ -223,6 +232,7 @@ where
         writer,
         taken,
         given,
+        order,
         answer,
     }
 }

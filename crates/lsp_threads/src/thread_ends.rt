@@ -7,7 +7,9 @@ ghost use Rattle.lsp_session.specs.SessionLaws.{Both};
 ghost use Rattle.lsp_session.specs.SessionRun.{Runs};
 ghost use Rattle.lsp_threads.specs.Contents.{ContentsGive};
 ghost use Rattle.lsp_threads.specs.Replies.{RepliesSend};
-ghost use Rattle.lsp_threads.specs.ThreadEnds.{EndsListen, GivesNext, IsReadyToWait, KeepsLent, ReadsNext, seen_of};
+ghost use Rattle.lsp_threads.specs.ThreadEnds.{EndsInOrder, EndsListen, GivesNext, IsFresh, IsReadyToWait, KeepsLent};
+ghost use Rattle.lsp_threads.specs.ThreadEnds.{ReadsNext, seen_of};
+ghost use Rattle.lsp_threads.specs.Writes.{KeepsMarks};
 
 use crate::content_parts::{ContentParts, Next};
 use crate::reply_outbox::ReplyOutbox;
@@ -74,6 +76,7 @@ impl<'a, R: Wait + Copy + Drop, L: BadContentPolicy> ThreadEnds<'a, R, L> {
     fn make_ready(&mut self)
         ensures untaken { seen_of self.new ≡ seen_of self.old }
         ensures unsent { self.new.outbox.now.replies ≡ self.old.outbox.now.replies }
+        ensures marks { KeepsMarks self.old.outbox.now.marks self.new.outbox.now.marks }
         ensures ready { IsReadyToWait self.new }
         ensures lent { KeepsLent self.old self.new }
     {
@@ -182,13 +185,15 @@ impl<'a, R: Wait + Copy + Drop, L: BadContentPolicy> Outbox for ThreadEnds<'a, R
     ghost sends = { EndsSend };
 
     fn send(&mut self, message: Message) -> Result<(), SendFault> {
-        self.outbox.send(message)
+        let taken = self.parts.so_far();
+        self.outbox.send(message, taken)
     }
 }
 
 impl<'a, R: Wait + Copy + Drop, L: BadContentPolicy> TextOutbox for ThreadEnds<'a, R, L> {
     fn send_text(&mut self, id: RequestId, text: ResultText) -> Result<(), SendFault> {
-        self.outbox.send_text(id, text)
+        let taken = self.parts.so_far();
+        self.outbox.send_text(id, text, taken)
     }
 }
 
@@ -199,8 +204,10 @@ pub fn serve_ends<R: Wait + Copy + Drop, L: BadContentPolicy, A: Application>(
     ends: &mut ThreadEnds<'_, R, L>,
     application: &mut A,
 ) -> SessionOutcome
+    requires { IsFresh ends.old }
     ensures runs { Runs (ContentsGive L.passes) RepliesSend
-        (Both (A.session application.old application.new) (StopsBy result.stop))
+        (Both (Both (A.session application.old application.new) (StopsBy result.stop))
+        (EndsInOrder L.passes ends.old ends.new))
         (seen_of ends.old, ends.old.outbox.now.replies) result.answer
         (seen_of ends.new, ends.new.outbox.now.replies) }
     ensures lent { KeepsLent ends.old ends.new }

@@ -6,6 +6,8 @@ ghost use Rattle.lsp_threads.specs.Passing.{GivenTo, IsFlushedUnless};
 
 use crate::backlog::{Backlog, Takes};
 use crate::frame_batch::write_texts;
+use crate::frame_text::FrameText;
+use crate::write_trace::WriteTrace;
 use lsp_message::{ByteTrace, Limits, WriteFault};
 use lsp_relay::RelayRx;
 use lsp_session::ReadEnd;
@@ -85,12 +87,17 @@ pub trait ReadsInto: Drop {
 pub trait WritesFrom: Drop {
     ghost use Rattle.std.specs.Prelude.{ℕ, List, Option};
     ghost use Rattle.lsp_message.specs.declared.frame.WriteFault.{WriteFault as fault};
+    ghost use Rattle.lsp_message.specs.Told.{Parts};
     ghost use Rattle.lsp_relay.specs.declared.ends.Parcel.{Parcel as parcel};
+    ghost use Rattle.lsp_threads.specs.Writes.{Begun as begun};
 
     /// These parcels were taken and written. After a fault they were not written from the failed write on. The bytes
     /// that were given are stated as if the writer began empty.
     ghost writes: { List (parcel Self) → Option fault → Option (List ℕ) → Option (List ℕ)
         → Type 0 };
+
+    /// These parcels were taken. Each write began with one of them, or in the middle of some, and gave no byte of a later one.
+    ghost orders: { List (parcel Self) → List begun → Parts → Type 0 };
 
     /// Writes the parcels that it takes, up to End, and records the bytes that it gave. After a fault, which it
     /// returns, it writes nothing more. It reports which bytes no longer wait to be written.
@@ -100,12 +107,13 @@ pub trait WritesFrom: Drop {
         rx: RelayRx<Self>,
         writer: W,
         takes: Takes,
-    ) -> (RelayRx<Self>, W, Option<WriteFault>, ByteTrace)
+    ) -> (RelayRx<Self>, W, Option<WriteFault>, ByteTrace, WriteTrace)
         requires { rx.taken ≡ [] }
         ensures relay { result.0.relay ≡ rx.relay }
         ensures written { writes result.0.taken result.2 (Some []) (Some (concat result.3.parts)) }
         ensures given { GivenTo (W.contents writer) result.3.parts (W.contents result.1) }
-        ensures flushed { IsFlushedUnless result.2 result.3.parts };
+        ensures flushed { IsFlushedUnless result.2 result.3.parts }
+        ensures order { orders result.0.taken result.4 result.3.parts };
 }
 
 /// What the reading thread returns: the sender's end of the relay that it was given.
@@ -129,7 +137,7 @@ pub struct Writer<W, M: Drop> {
     pub rx: Snapshot<RelayRx<M>>,
 }
 
-impl<W: Write, M: WritesFrom> Promise<(RelayRx<M>, W, Option<WriteFault>, ByteTrace)>
+impl<W: Write, M: WritesFrom> Promise<(RelayRx<M>, W, Option<WriteFault>, ByteTrace, WriteTrace)>
     for Writer<W, M> {
     ghost use Rattle.std.specs.List.{concat};
     ghost use Rattle.std.specs.Prelude.{◌≡◌, [], Some};
@@ -138,7 +146,7 @@ impl<W: Write, M: WritesFrom> Promise<(RelayRx<M>, W, Option<WriteFault>, ByteTr
     ghost kept_by = { λ p r. (r.0.relay ≡ p.rx.value.relay)
         × M.writes r.0.taken r.2 (Some []) (Some (concat r.3.parts))
         × GivenTo (W.contents p.writer.value) r.3.parts (W.contents r.1)
-        × IsFlushedUnless r.2 r.3.parts };
+        × IsFlushedUnless r.2 r.3.parts × M.orders r.0.taken r.4 r.3.parts };
 }
 
 /// Starts the reading thread.
@@ -184,7 +192,7 @@ pub fn start_writer<M, R, W>(
     writer: W,
     takes: Takes,
 ) -> Result<
-    PromisedHandle<(RelayRx<M>, W, Option<WriteFault>, ByteTrace), Writer<W, M>>,
+    PromisedHandle<(RelayRx<M>, W, Option<WriteFault>, ByteTrace, WriteTrace), Writer<W, M>>,
     StartFault,
 >
 where
@@ -210,27 +218,38 @@ where
     }
 }
 
-impl WritesFrom for String {
+impl WritesFrom for FrameText {
     ghost use Rattle.lsp_threads.specs.Framing.{WritesParcels};
+    ghost use Rattle.lsp_threads.specs.Writes.{AllWrites, EndsAtMark, marks_of};
 
     ghost writes = { WritesParcels };
+
+    ghost orders = { λ taken writes given. AllWrites (EndsAtMark (marks_of taken)) writes given };
 
     fn write_out<R: Wait + Drop, W: Write + Drop>(
         rt: R,
         alloc: Global,
-        rx: RelayRx<String>,
+        rx: RelayRx<FrameText>,
         writer: W,
         takes: Takes,
-    ) -> (RelayRx<String>, W, Option<WriteFault>, ByteTrace)
+    ) -> (
+        RelayRx<FrameText>,
+        W,
+        Option<WriteFault>,
+        ByteTrace,
+        WriteTrace,
+    )
         requires { rx.taken ≡ [] }
         ensures relay { result.0.relay ≡ rx.relay }
         ensures written { WritesParcels result.0.taken result.2 (Some []) (Some (concat result.3.parts)) }
         ensures given { GivenTo (W.contents writer) result.3.parts (W.contents result.1) }
         ensures flushed { IsFlushedUnless result.2 result.3.parts }
+        ensures order { AllWrites (EndsAtMark (marks_of result.0.taken)) result.4 result.3.parts }
     {
         let mut writer = writer;
         let mut given = ByteTrace::new();
-        let (rx, fault) = write_texts(&rt, alloc, rx, &mut writer, &mut given, &takes);
-        (rx, writer, fault, given)
+        let mut order = WriteTrace::new();
+        let (rx, fault) = write_texts(&rt, alloc, rx, &mut writer, &mut given, &mut order, &takes);
+        (rx, writer, fault, given, order)
     }
 }

@@ -1,4 +1,4 @@
-use Rattle.std.proofs.Common.{sym, string_bytes}
+use Rattle.std.proofs.Common.{inl, refl, sym, string_bytes}
 use Rattle.lsp_threads.specs.Passing.{noted}
 use Rattle.lsp_threads.proofs.Frames.{all_gathered, first_gathered}
 use Rattle.lsp_threads.proofs.Taken.{gives_nothing}
@@ -16,3 +16,10 @@ returns-clause-gathered g c =
     rw (sym c.if-joins.ensures) (first_gathered noted c.args.given.now c.write_after-fault.new.given
     (string_bytes c.joins.new.pending) (string_bytes c.args.text) c.args.before c.write_after-fault.result
     (rw c.as_str.ensures.value at c.write_after-fault.ensures.none) c.write_after-fault.ensures.some)
+
+pub returns-then-joins-clause-order : goal.returns-then-joins-clause-order
+returns-then-joins-clause-order g c = inl (refl, refl)
+
+pub returns-clause-order : goal.returns-clause-order
+returns-clause-order g c = rw (sym c.if-joins.ensures) (rw c.as_str.ensures.value at
+    c.write_after-fault.ensures.order)

@@ -19,3 +19,7 @@ returns-in-Ok-clause-session g c =
     ) at c.serve_between.ensures.told)
     (rw c.in-Ok.ensures.reading.3 at c.serve_between.ensures.taken) (rw c.in-Ok.ensures.writing.2 at
     c.serve_between.ensures.given)
+
+pub returns-in-Ok-clause-order : goal.returns-in-Ok-clause-order
+returns-in-Ok-clause-order g c = rw (c.in-Ok.ensures.reading.3, c.in-Ok.ensures.reading.4, c.in-Ok.ensures.reading.5)
+    at c.serve_between.ensures.order

@@ -5,6 +5,7 @@ use Rattle.lsp_session.specs.HandlerSession.{of_handler}
 use Rattle.lsp_session.specs.Session.{SessionOut}
 use Rattle.lsp_session.proofs.Lending.{session_as}
 use Rattle.lsp_threads.specs.declared.run.Threaded.{Threaded}
+use Rattle.lsp_threads.proofs.GivenInOrder.{started_in_order}
 use Rattle.lsp_threads.proofs.Sessions.{started_as, started_told, started_untold, unstarted_handler}
 use Rattle.lsp_threads.specs.Passing.{noted}
 use Rattle.lsp_threads.proofs.run.run_threads_within.Goals as goal
@@ -48,3 +49,18 @@ returns-clause-told g c =
     c.args.handler.now c.new-service.ensures.unchanged (ap view c.new-service.ensures.capabilities))
     (λ (done : Threaded _). done.taken.parts) (λ (done : Threaded _). noted done.given)
     (λ (done : Threaded _). done.answer) _ c.run_in_threads.ensures.told
+
+pub returns-clause-order : goal.returns-clause-order
+returns-clause-order g c =
+    let answers = g.H.Handler.answer_post in
+    let notes = g.H.Handler.note_post in
+    let old = c.new-service.result in
+    let new = c.run_in_threads.new.application.service in
+    started_in_order _ (of_content c.args.limit) (g.R.Read.remaining c.args.reader) _ (λ first fault last told. told)
+    (SessionOut (lent_handler answers notes) old new)
+    (SessionOut (of_handler answers notes (view c.args.capabilities)) c.args.handler.now _)
+    (session_as answers notes (view c.args.capabilities) old new _ (λ names. c.handler-1.given.1
+    (sym c.new-service.ensures.same_handler ∙ sym names))
+    c.args.handler.now c.new-service.ensures.unchanged (ap view c.new-service.ensures.capabilities)) _
+    (λ (done : Threaded _). done.taken.parts) (λ (done : Threaded _). done.order)
+    (λ (done : Threaded _). done.given.parts) (λ (done : Threaded _). done.answer) _ c.run_in_threads.ensures.order

@@ -1,4 +1,4 @@
-use Rattle.std.proofs.Common.{◌++◌, ◌∙◌, ap, sym, Some}
+use Rattle.std.proofs.Common.{◌≡◌, ◌++◌, ◌∙◌, ap, List, subst, sym, Some}
 use Rattle.std.specs.List.{concat}
 use Rattle.lsp_session.specs.SessionOutcome.{StopsBy}
 use Rattle.lsp_session.specs.SessionLaws.{Both}
@@ -6,11 +6,16 @@ use Rattle.lsp_session.specs.SessionFault.{session_answer}
 use Rattle.lsp_relay.specs.Relay.{has_end}
 use Rattle.lsp_session.proofs.Brought.{brought_by}
 use Rattle.lsp_session.proofs.Got.{got_by}
-use Rattle.lsp_session.specs.Session.{starting}
-use Rattle.lsp_threads.specs.Contents.{ContentsGive, Lent, Taking}
+use Rattle.lsp_session.proofs.Lending.{over_as}
+use Rattle.lsp_session.specs.Session.{Exchange, SessionAnswer, SessionPart, starting, Stop}
+use Rattle.lsp_threads.proofs.Frames.{same_parcels}
+use Rattle.lsp_threads.proofs.GivenInOrder.{given_in_order}
+use Rattle.lsp_threads.specs.Contents.{ContentsGive, Lent, source_of, Taking}
+use Rattle.lsp_threads.specs.Order.{GivesInOrder, MarksAnswer}
 use Rattle.lsp_threads.specs.Replies.{Gathered, RepliesSend, reply_fault}
-use Rattle.lsp_threads.specs.ThreadEnds.{seen_of}
+use Rattle.lsp_threads.specs.ThreadEnds.{EndsInOrder, seen_of}
 use Rattle.lsp_threads.specs.Threads.{session_end}
+use Rattle.lsp_threads.specs.Writes.{KeepsMarks, marks_of}
 use Rattle.lsp_threads.proofs.ContentStream.{gives_relay}
 use Rattle.lsp_threads.proofs.Flushing.{session_flushed}
 use Rattle.lsp_threads.proofs.Replies.{all_replied}
@@ -57,8 +62,8 @@ returns-clause-flushed g c = rw (c.session_answer-answer.ensures, c.reply_fault-
     (session_flushed c.join-replies_rx.result.3.parts c.serve_ends-served.result.stop c.serve_ends-served.result.answer
     c.session_end.result c.join-replies_rx.result.2 c.finish-replies.result.1 c.join-replies_rx.ensures.3)
 
-pub returns-clause-told : goal.returns-clause-told
-returns-clause-told g c = λ rest ends.
+pub returns-clause-order : goal.returns-clause-order
+returns-clause-order g c = λ rest ends.
     let passes = g.L.BadContentPolicy.passes in
     let old = c.args.application.now in
     let new = c.serve_ends-served.new.application in
@@ -76,10 +81,32 @@ returns-clause-told g c = λ rest ends.
     let fault = c.reply_fault-fault.ensures ∙ (λ i. reply_fault c.join-replies_rx.result.2 (failed i)) in
     let answer = c.session_answer-answer.ensures ∙ (λ i. session_answer served.stop served.answer (ended i)
     (fault i)) in
+    let limits = c.args.workers.reading.promise.limits in
+    let wakeable = c.args.workers.reading.promise.tx.value.wakeable in
+    let policy = c.new-ends.result.policy.now in
+    let given = c.join-replies_rx.result.3.parts in
+    let known = g.R.Read.remaining c.args.workers.reading.promise.reader.value in
+    let order : SessionPart = GivesInOrder wakeable passes limits known policy c.join-replies_rx.result.4
+    given in
+    let planned = ap (λ (t : Taking). t.relay.1) first ∙ c.requires.source.0 in
+    let woken : (seen_of c.new-ends.result).0.relay.2 ≡ wakeable = ap (λ (t : Taking). t.relay.2) first
+    ∙ c.requires.source.1 in
+    let all = same_parcels c.join-replies_rx.result.0.taken c.finish-replies.result.0.sent
+    c.join-replies_rx.ensures.1.0 c.finish-replies.ensures.ended c.settle_all.ensures.settled in
+    let in_order : (xs : List Exchange) (stop : Stop) (answer : SessionAnswer)
+    → EndsInOrder passes c.new-ends.result c.serve_ends-served.new.ends xs stop answer → order xs stop answer =
+    λ xs stop answer ends. given_in_order wakeable passes limits known policy xs stop answer
+    c.serve_ends-served.new.ends.outbox.now.marks
+    (subst (λ w. MarksAnswer w passes limits known policy c.serve_ends-served.new.ends.outbox.now.marks xs stop answer)
+    woken (ends (source_of known limits) planned))
+    c.join-replies_rx.result.0.taken c.finish-replies.result.0.sent
+    (subst (λ (b : Gathered). KeepsMarks b.marks (marks_of c.finish-replies.result.0.sent)) sent
+    c.finish-replies.ensures.marks) all c.join-replies_rx.result.4 given c.join-replies_rx.ensures.4 in
     rw (answer, told, sym c.new-ends.ensures.untold) (threads_tell passes c.args.workers.reading.promise.limits
-    (Both (g.A.Application.session old new) (StopsBy served.stop))
-    (g.A.Application.session old new) served.stop
-    (λ xs stop answer both. (both.0, both.1.0, both.1.1))
+    (Both (Both (g.A.Application.session old new) (StopsBy served.stop))
+    (EndsInOrder passes c.new-ends.result c.serve_ends-served.new.ends))
+    (Both (g.A.Application.session old new) order) served.stop
+    (λ xs stop answer both. ((both.0.0, in_order xs stop answer both.1), both.0.1.0, both.0.1.1))
     _ _ (seen_of c.new-ends.result) (seen_of c.serve_ends-served.new.ends) c.new-ends.result.outbox.now.replies
     c.serve_ends-served.new.ends.outbox.now.replies served.answer run.runs
     (ap (λ (t : Taking). t.taken) first ∙ c.requires.reading.0) (ap (λ (t : Taking). t.waiting) first)
@@ -92,3 +119,18 @@ returns-clause-told g c = λ rest ends.
     c.finish-replies.ensures.ended
     c.join-replies_rx.result.2 c.join-replies_rx.ensures.1 c.settle_all.ensures.settled
     (Some (concat c.leave_reading-read.result.1.parts ++ rest)) (left.5 rest ends))
+
+pub returns-clause-told : goal.returns-clause-told
+returns-clause-told g c = λ rest ends. over_as _ _ (λ xs stop answer both. both.0) _ _ _ _ (returns-clause-order g c
+    rest ends)
+
+pub serve_ends-served-requires : goal.serve_ends-served-requires
+serve_ends-served-requires g c =
+    let first = c.new-ends.ensures.untaken ∙ c.new-parts.ensures in
+    let unsent = c.new-ends.ensures.unsent ∙ c.new-outbox.ensures in (
+      ap (λ (t : Taking). t.taken) first ∙ c.requires.reading.0,
+      ap (λ (t : Taking). t.waiting) first,
+      c.new-ends.ensures.unended,
+      ap (λ (b : Gathered). b.replies.bytes) unsent,
+      ap (λ (b : Gathered). b.marks) unsent,
+    )

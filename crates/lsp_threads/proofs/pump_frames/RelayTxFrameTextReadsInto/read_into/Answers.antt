@@ -1,5 +1,5 @@
 use Rattle.lsp_threads.proofs.Frames.{tells_frames}
-use Rattle.lsp_threads.proofs.pump_frames.RelayTxStringReadsInto.read_into.Goals as goal
+use Rattle.lsp_threads.proofs.pump_frames.RelayTxFrameTextReadsInto.read_into.Goals as goal
 
 pub returns-clause-told : goal.returns-clause-told
 returns-clause-told g c =

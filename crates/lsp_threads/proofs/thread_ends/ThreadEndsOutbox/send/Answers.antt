@@ -1,0 +1,10 @@
+use Rattle.std.proofs.Common.{refl}
+use Rattle.lsp_threads.proofs.thread_ends.ThreadEndsOutbox.send.Goals as goal
+
+pub returns-clause-sends : goal.returns-clause-sends
+returns-clause-sends g c = (
+  c.send.ensures.sends,
+  refl,
+  (rw c.so_far-taken.ensures.account at c.send.ensures.marks, c.so_far-taken.ensures.learned),
+  (refl, refl, refl),
+)
