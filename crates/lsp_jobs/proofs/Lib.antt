@@ -1,5 +1,4 @@
 mod Answering
-pub mod JobSenderSend
 mod JobSessions
 mod LastJobs
 mod SessionTurns
@@ -10,6 +9,7 @@ mod Owed
 mod KeyChanges
 mod KeyTurns
 pub mod QueuedJobSend
+mod RepliesSend
 pub mod Refused
 mod RefusedKeys
 pub mod MessageSend

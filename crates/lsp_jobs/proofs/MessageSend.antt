@@ -57,11 +57,7 @@ module _ (F : RattleType) where
       ))
 
   -- what a job comes to
-  pub ran_send : IsSend F → IsSend (result.the_row (done.the_row F) interrupted.the_row)
-  ran_send found =
+  pub ran_parts : IsSend F → IsSend (result.the_field (done.the_row F) interrupted.the_row).row
+  ran_parts found =
       let one = done_send found in
-      let R = done.the_row F in
-      let parts : IsSend (result.the_field R interrupted.the_row).row = search (one, interrupted_send, both, sendable)
-      depth 40 in
-      recorded_send (result.the_field R interrupted.the_row).row _ _ (result.the_type R interrupted.the_row).to_one
-      parts
+      search (one, interrupted_send, both, sendable) depth 40

@@ -1,5 +1,4 @@
 -- Each pending job has its ticket.
-use Rattle.serde_json.specs.Data.{Data}
 use Rattle.std.proofs.Common.{◌≡◌, sym, ◌∙◌, ap, subst, ℕ, Bool, true, false, cond, List, [], ◌∷◌, ◌++◌, length, ◌+◌}
 use Rattle.std.proofs.Common.{Some, None, option_map, Result, Ok, Err, OnErr, OnOk}
 use Rattle.std.specs.Prelude.{MatchResult}
@@ -14,6 +13,7 @@ use Rattle.lsp_jobs.specs.Waiting.{HaveTickets, MaySay, job_of}
 use Rattle.lsp_jobs.specs.declared.channel.Item.{Item}
 use Rattle.lsp_jobs.specs.declared.channel.Known.{Known}
 use Rattle.lsp_jobs.specs.declared.channel.Known.TheVariants.{All}
+use Rattle.lsp_jobs.specs.declared.job.Job.{Ghosts as OfJob}
 use Rattle.lsp_jobs.specs.declared.names.JobName.{JobName}
 use Rattle.lsp_jobs.specs.declared.table.Entry.{Entry}
 
@@ -93,15 +93,15 @@ module _ {J : Type 0} where
       removed jobs entries entry n (same_name n name) have (ap (λ (m : PendingJobs (Entry J)). m n) (sym is) ∙ found)
 
   -- an item is said by the pending job that has its ticket
-  pub said_by : {R : Type 0} (run_post : J → R → Type 0) (reports asks : J → List ℕ → Data → Type 0) (jobs : List J)
-      (entries before : PendingJobs (Entry J)) (item : Item R) (entry : Entry J) → entries ≡ before
-      → HaveTickets jobs entries → IsSaidBy run_post reports asks jobs item → entries item.name ≡ Some entry
+  pub said_by : {F : Type 0} (may : OfJob J F) (jobs : List J)
+      (entries before : PendingJobs (Entry J)) (item : Item F) (entry : Entry J) → entries ≡ before
+      → HaveTickets jobs entries → IsSaidBy may jobs item → entries item.name ≡ Some entry
       → entry.ticket ≡ item.ticket
-      → MaySay run_post reports asks (λ name. option_map job_of (before name)) item.name item.message
-  said_by run_post reports asks jobs entries before item entry is have said found ticket =
+      → MaySay may (λ name. option_map job_of (before name)) item.name item.message
+  said_by may jobs entries before item entry is have said found ticket =
       let same : said.0 ≡ entry.job.value = some-injective _ _ (sym said.1 ∙ ap (get_elem? jobs) (sym ticket)
       ∙ have item.name entry found) in (
         entry.job.value,
         ap (λ (m : PendingJobs (Entry J)). option_map job_of (m item.name)) (sym is) ∙ ap (option_map job_of) found,
-        subst (λ (job : J). MaySend run_post reports asks job item.message) same said.2,
+        subst (λ (job : J). MaySend may job item.message) same said.2,
       )

@@ -1,15 +1,15 @@
 -- What is kept under the names of jobs.
-use Rattle.serde_json.specs.Data.{Data}
 use Rattle.std.specs.FinMap as map
 use Rattle.std.specs.Prelude.{◌≡◌, ℕ, List, Some, option_map}
 use mathlib.Core.Option.{some}
 use lib.ListN.{get_elem?}
 use Rattle.lsp_jobs.specs.Outcomes.{MaySend}
 use Rattle.lsp_jobs.specs.PendingJobs.{PendingJobs}
-use Rattle.lsp_jobs.specs.declared.channel.WorkerMessage.{WorkerMessage}
 use Rattle.lsp_jobs.specs.declared.entries.Entries.{Entries}
+use Rattle.lsp_jobs.specs.declared.job.Job.{Ghosts as OfJob}
 use Rattle.lsp_jobs.specs.declared.names.JobName.{JobName}
 use Rattle.lsp_jobs.specs.declared.names.JobName.TheVariants.{Request, Keyed}
+use Rattle.lsp_jobs.specs.declared.pool.JobMessage.{JobMessage}
 use Rattle.lsp_jobs.specs.declared.table.Entry.{Entry}
 
 -- under each name what is kept
@@ -31,8 +31,8 @@ module _ {J : Type 0} where
       (name : JobName) (entry : Entry J) → entries name ≡ Some entry
       → get_elem? jobs entry.ticket ≡ some entry.job.value
 
-module _ {J R : Type 0} (run_post : J → R → Type 0) (reports asks : J → List ℕ → Data → Type 0) where
+module _ {J F : Type 0} (may : OfJob J F) where
   -- the job that is pending under this name may say this
-  abbrev pub MaySay : PendingJobs J → JobName → WorkerMessage R → Type 0
+  abbrev pub MaySay : PendingJobs J → JobName → JobMessage F → Type 0
   MaySay pending name message =
-      (job : J) × (pending name ≡ Some job) × MaySend run_post reports asks job message
+      (job : J) × (pending name ≡ Some job) × MaySend may job message

@@ -1,18 +1,18 @@
 // A server whose jobs run on the session's own thread.
-ghost use Rattle.serde_json.specs.Data.{Data};
 ghost use Rattle.serde_json.specs.View.{view};
 ghost use Rattle.std.specs.List.{All, FoldsTo};
-ghost use Rattle.std.specs.Prelude.{◌≡◌, ◌++◌, [], ◌∷◌, ℕ, List, IfOk, map, option_map, string_bytes};
+ghost use Rattle.std.specs.Prelude.{◌≡◌, ◌++◌, [], ◌∷◌, List, IfOk, Some, map, option_map, string_bytes};
 ghost use Rattle.lsp_message.specs.View.{outcome_view};
 ghost use Rattle.lsp_acts.specs.View.{act_view};
 ghost use Rattle.lsp_jobs.specs.Inline.{told, AnswersLong, Carries, EndsInline, Round, RunsThen, Settles};
+ghost use Rattle.lsp_jobs.specs.Outcomes.{MayAsk, MayReport};
 ghost use Rattle.lsp_jobs.specs.PoolView.{came_view};
 
-use crate::channel::{AnyJob, Reportable};
-use crate::job::{Job, JobContext, Ran};
+use crate::job::{DoneJob, Interrupted, Job, JobContext, run_as_text};
 use crate::job_server::{AnsweredBy, JobCommand, JobServer, KeyedJobs, StatesJobs};
 use crate::names::JobName;
 use crate::pooled_server::{one_act, out_of_memory, parts_of, push_reply};
+use crate::reporter::Picked;
 use lsp_acts::{Act, Server};
 use lsp_message::{Notification, Request, ResponseError};
 use serde_json::Value;
@@ -84,7 +84,7 @@ impl<S: JobServer<J> + Drop, J: Job> InlineJobs<S, J> {
     fn end_job(
         &mut self,
         name: JobName,
-        ran: Ran<J::Found>,
+        ran: Result<DoneJob<J::Found>, Interrupted>,
     ) -> Result<Vec<Act<S::PendingData>>, AllocError>
         ensures { IfOk result (λ acts. EndsInline ⟦<S as StatesJobs<J>>⟧.jobs name (came_view «ran») self.old.server
             (map (act_view S.PendingData.eq) acts.items) self.new.server) }
@@ -252,21 +252,18 @@ impl<S: JobServer<J> + Drop, J: Job> Server for InlineJobs<S, J> {
 }
 
 /// Runs a job. Returns its result, and the notifications that it sent, in order.
-fn perform<W: Reportable, J: Job>(
+fn perform<W: Picked<J>, J: Job>(
     alloc: Global,
     job: J,
-) -> Result<(Ran<J::Found>, Vec<Notification>), AllocError>
-    requires reports { (method : List ℕ) (params : Data) → J.reports «job» method params
-        → W.what method params }
-    requires asks { (method : List ℕ) (params : Data) → J.asks «job» method params
-        → W.asked method params }
+) -> Result<(Result<DoneJob<J::Found>, Interrupted>, Vec<Notification>), AllocError>
+    requires { W.job ≡ Some «job» }
     ensures ran { IfOk result (λ done. IfOk done.0 (λ ran.
         J.run_post «job» (option_map outcome_view ran.reply) ran.found)) }
     ensures sent { IfOk result (λ done.
-        All (λ n. W.what (string_bytes n.method) (view n.params)) done.1.items) }
+        All (λ n. MayReport J.Job W.job (string_bytes n.method) (view n.params)) done.1.items) }
 {
-    let mut context: InlineContext<W> = InlineContext::new(alloc);
-    let ran = job.perform(alloc, &mut context);
+    let mut context: InlineContext<W, J> = InlineContext::new(alloc);
+    let ran = run_as_text(job, alloc, &mut context);
     let sent = context.into_sent()?;
     Ok((ran, sent))
 }
@@ -314,31 +311,32 @@ fn push_notification<P: Drop + PartialEq>(
 /// The context of a job that runs on the session's thread: it keeps what the job sends. Contracts see how many
 /// notifications these are, and that the job may send each.
 #[derive(Drop)]
-struct InlineContext<W: Reportable> {
-    what: PhantomData<W>,
+struct InlineContext<W: Picked<J>, J: Job> {
+    of: PhantomData<(W, J)>,
     sent: Vec<Notification>,
     /// What is sent when the job ends.
     last: Option<Notification>,
 }
 
-impl<W: Reportable> Model for InlineContext<W> {
+impl<W: Picked<J>, J: Job> Model for InlineContext<W, J> {
     ghost use Rattle.serde_json.specs.View.{view as tree_of};
     ghost use Rattle.std.specs.List.{All};
     ghost use Rattle.std.specs.Prelude.{IfSome, ℕ, length, string_bytes};
+    ghost use Rattle.lsp_jobs.specs.Outcomes.{MayReport};
 
     ghost Value = { ℕ };
 
     ghost view = { λ c. length c.sent.items };
 
-    ghost invariant = { λ c. All (λ n. W.what (string_bytes n.method) (tree_of n.params)) c.sent.items
-        × IfSome c.last (λ n. W.what (string_bytes n.method) (tree_of n.params)) };
+    ghost invariant = { λ c. All (λ n. MayReport J.Job W.job (string_bytes n.method) (tree_of n.params)) c.sent.items
+        × IfSome c.last (λ n. MayReport J.Job W.job (string_bytes n.method) (tree_of n.params)) };
 }
 
-impl<W: Reportable> InlineContext<W> {
+impl<W: Picked<J>, J: Job> InlineContext<W, J> {
     /// Makes a context in which nothing was sent. It does not allocate.
-    fn new(alloc: Global) -> InlineContext<W> {
+    fn new(alloc: Global) -> InlineContext<W, J> {
         InlineContext {
-            what: PhantomData,
+            of: PhantomData,
             sent: Vec::new(alloc),
             last: None,
         }
@@ -346,7 +344,7 @@ impl<W: Reportable> InlineContext<W> {
 
     /// Returns what the job sent, and after it the notification that was kept for its end.
     fn into_sent(self) -> Result<Vec<Notification>, AllocError>
-        ensures { IfOk result (λ all. All (λ n. W.what (string_bytes n.method) (view n.params)) all.items) }
+        ensures { IfOk result (λ all. All (λ n. MayReport J.Job W.job (string_bytes n.method) (view n.params)) all.items) }
     {
         let InlineContext { sent, last, .. } = self;
         let mut sent = sent;
@@ -360,10 +358,10 @@ impl<W: Reportable> InlineContext<W> {
     }
 }
 
-impl<W: Reportable> JobContext for InlineContext<W> {
-    ghost may = { W.what };
+impl<W: Picked<J>, J: Job> JobContext for InlineContext<W, J> {
+    ghost may = { MayReport J.Job W.job };
 
-    ghost may_send_request = { W.asked };
+    ghost may_send_request = { MayAsk J.Job W.job };
 
     fn is_cancelled(&self) -> bool {
         false

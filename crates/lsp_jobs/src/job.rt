@@ -1,9 +1,9 @@
 // The work of a long request, or of a server's own.
+ghost use Rattle.serde_json.specs.Data.{Data};
 ghost use Rattle.serde_json.specs.View.{view};
-ghost use Rattle.std.specs.Prelude.{◌≡◌, None, Some, IfOk, IfSome, option_map, string_bytes};
+ghost use Rattle.std.specs.Prelude.{◌≡◌, ℕ, List, None, Some, IfOk, IfSome, option_map, string_bytes};
 ghost use Rattle.lsp_message.specs.View.{outcome_view};
 
-use crate::channel::AnyJob;
 use lsp_message::{Notification, ResponseError, ResultText};
 use serde_json::Value;
 use std::alloc::{AllocError, AllocFailed, Global};
@@ -191,30 +191,26 @@ pub struct DoneJob<F> {
     pub found: Option<F>,
 }
 
-/// The result of a job, or why it has none.
-pub(crate) type Ran<F> = Result<DoneJob<F>, Interrupted>;
-
-impl<J: Job> AnyJob<Ran<J::Found>> for J {
-    ghost use Rattle.serde_json.specs.Data.{Data};
-    ghost use Rattle.std.specs.Prelude.{ℕ, List, IfOk, option_map};
-    ghost use Rattle.lsp_message.specs.View.{outcome_view};
-
-    ghost run_post = { λ job ran. IfOk ran (λ done. J.run_post job (option_map outcome_view done.reply) done.found) };
-
-    ghost reports = { J.reports };
-
-    ghost asks = { J.asks };
-
-    fn perform<C: JobContext>(self, alloc: Global, context: &mut C) -> Ran<J::Found> {
-        match self.run(context) {
-            Ok(done) => with_text(alloc, done),
-            Err(end) => Err(end),
-        }
+/// Runs a job, and makes its reply text. If an allocation fails at that, the job ends with `Interrupted::Memory`.
+pub(crate) fn run_as_text<J: Job, C: JobContext>(
+    job: J,
+    alloc: Global,
+    context: &mut C,
+) -> Result<DoneJob<J::Found>, Interrupted>
+    requires reporting { (method : List ℕ) (params : Data) → J.reports «job» method params
+        → C.may method params }
+    requires asking { (method : List ℕ) (params : Data) → J.asks «job» method params
+        → C.may_send_request method params }
+    ensures { IfOk result (λ done. J.run_post «job» (option_map outcome_view done.reply) done.found) }
+{
+    match job.run(context) {
+        Ok(done) => with_text(alloc, done),
+        Err(end) => Err(end),
     }
 }
 
 /// Returns the result of a job with its reply as text. If an allocation fails, the job ends with `Interrupted::Memory`.
-fn with_text<F: Drop>(alloc: Global, done: JobResult<F>) -> Ran<F>
+fn with_text<F: Drop>(alloc: Global, done: JobResult<F>) -> Result<DoneJob<F>, Interrupted>
     ensures { IfOk result (λ kept. (option_map outcome_view kept.reply ≡ option_map outcome_view done.reply)
         × (kept.found ≡ done.found)) }
 {

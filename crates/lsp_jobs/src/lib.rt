@@ -14,9 +14,9 @@ mod notifier;
 mod pool;
 mod pooled_server;
 mod progress;
+mod reporter;
 mod run;
 mod table;
-mod untaken_messages;
 mod waiting_jobs;
 mod workers;
 

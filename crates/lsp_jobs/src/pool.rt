@@ -7,8 +7,7 @@ ghost use Rattle.lsp_jobs.specs.declared.names.JobName.TheVariants.{Request as O
 
 use crate::asking::Replies;
 use crate::cancellation::CancellationToken;
-use crate::channel::{AnyJob, WorkerMessage};
-use crate::job::{DoneJob, Interrupted, Job, Ran};
+use crate::job::{DoneJob, Interrupted, Job};
 use crate::names::JobName;
 use crate::notifier::Notifier;
 use crate::table::{Entry, JobTable};
@@ -19,7 +18,8 @@ use lsp_message::{Notification, RequestId, ResponseError};
 use lsp_threads::StartFault;
 use serde_json::Value;
 use std::alloc::{AllocError, Global};
-use std::sync::Wait;
+use std::sync::atomic::{AtomicBool, Ordering};
+use std::sync::{Arc, Mutex, Wait};
 use std::thread::{Builder, JoinHandle, Threads};
 use std::time::{Clock, Duration};
 
@@ -117,10 +117,11 @@ pub enum JobMessage<F> {
 pub struct JobPool<T: Wait + Drop, J: Job> {
     rt: T,
     alloc: Global,
-    tokens: CancellationToken,
+    /// Whether all jobs are to end.
+    all_end: Arc<AtomicBool, Global>,
     table: JobTable<J>,
-    waiting: WaitingJobs<QueuedJob<J, Ran<J::Found>>>,
-    replies: Replies,
+    waiting: WaitingJobs<QueuedJob<J>>,
+    replies: Arc<Mutex<Replies>>,
     workers: Vec<JoinHandle<()>>,
 }
 
@@ -159,15 +160,15 @@ where
     pub fn end(self) {
         let JobPool {
             rt,
-            tokens,
+            all_end,
             table,
             waiting,
             replies,
             workers,
             ..
         } = self;
-        tokens.cancel_all();
-        replies.let_cancelled_go(&rt);
+        all_end.store(true, Ordering::SeqCst);
+        replies.lock(&rt).let_cancelled_go();
         // A worker that waits for room goes on when the table is gone.
         drop(table);
         drop(waiting);
@@ -208,17 +209,19 @@ fn pool_without_workers<T: Wait + Drop, J: Job>(
     rt: T,
     alloc: Global,
     size: PoolSize,
-) -> Result<(JobPool<T, J>, JobSource<QueuedJob<J, Ran<J::Found>>>), AllocError>
+) -> Result<(JobPool<T, J>, JobSource<QueuedJob<J>>), AllocError>
     ensures { IfOk result (λ made. pending_jobs made.0 ≡ no_jobs) }
 {
-    let tokens = CancellationToken::new(alloc)?;
+    let Ok(all_end) = Arc::new(alloc, AtomicBool::new(false)) else {
+        return Err(AllocError);
+    };
     let replies = Replies::new(alloc)?;
     let (waiting, taken) = queue_of_jobs(alloc, size)?;
     let table = JobTable::new(alloc)?;
     let pool = JobPool {
         rt,
         alloc,
-        tokens,
+        all_end,
         table,
         waiting,
         replies,
@@ -298,12 +301,10 @@ impl<T: Wait + Clock + Drop, J: Job> JobPool<T, J> {
         ensures err { without name.now (pending_jobs self.new)
             ≡ without name.now (pending_jobs self.old) }
     {
-        let token = self.tokens.of_pool(self.alloc)?;
-        let theirs = token.share()?;
-        let asker = self.replies.asker(self.table.next_ticket(), theirs)?;
-        let (ticket, job_sender) = self.table.enter(name.clone()?, job, token)?;
+        let token = CancellationToken::new(self.alloc, &self.all_end)?;
+        let queued = self.table.enter(name.clone()?, job, token, &self.replies)?;
+        let ticket = queued.ticket;
         let is_keyed_job = name.is_keyed();
-        let queued = QueuedJob { job_sender, asker };
         self.waiting
             .add(&self.rt, ticket, queued, is_keyed_job, time)
     }
@@ -342,9 +343,10 @@ impl<T: Wait + Drop, J: Job> JobPool<T, J> {
 
     /// Makes a job end that is no longer in the table.
     fn end_job(&self, entry: Entry<J>) {
-        let ticket = entry.cancel();
+        let ticket = entry.ticket;
+        drop(entry);
         self.waiting.take_back(&self.rt, ticket);
-        self.replies.let_cancelled_go(&self.rt);
+        self.replies.lock(&self.rt).let_cancelled_go();
     }
 
     /// Makes all jobs end, as `cancel` does for one, for example because the client shuts the session down.
@@ -353,32 +355,37 @@ impl<T: Wait + Drop, J: Job> JobPool<T, J> {
     {
         self.table.complete_all(self.alloc);
         self.waiting.take_all_back(&self.rt);
-        self.replies.let_cancelled_go(&self.rt);
+        self.replies.lock(&self.rt).let_cancelled_go();
     }
 
     /// Passes the client's reply to the job that waits under this number. If the job no longer waits, the reply is
     /// dropped.
     pub fn reply(&self, number: u64, outcome: Result<Value, ResponseError>) {
-        self.replies.hand(&self.rt, number, outcome);
+        let waiter = self.replies.lock(&self.rt).take(number);
+        match waiter {
+            Some(waiter) => waiter.give(&self.rt, outcome),
+            None => drop(outcome),
+        }
     }
 
     /// Reports that no reply will arrive to a request of a job. The job that waits under this number goes on without
     /// one.
     pub fn abandon(&self, number: u64) {
-        self.replies.abandon(&self.rt, number);
+        let waiter = self.replies.lock(&self.rt).take(number);
+        drop(waiter);
     }
 
     /// Returns the number of a job's request to cancel at the client, if there is one: the job is to end, no longer
     /// waits, and the client has not replied (LSP 3.17, "Cancellation Support"). Each number is returned once, and a
     /// signal is sent for it too.
     pub fn take_request_to_cancel(&self) -> Option<u64> {
-        self.replies.take_request_to_cancel(&self.rt)
+        self.replies.lock(&self.rt).take_request_to_cancel()
     }
 
     /// Makes the job end that shows the progress with this token, because the client cancelled that progress (LSP 3.17,
     /// "Canceling Work Done Progress"). Its result is still awaited.
     pub fn cancel_progress(&self, token: &RequestId) {
-        self.replies.cancel_shown(&self.rt, token);
+        self.replies.lock(&self.rt).cancel_shown(token);
     }
 
     /// Takes the next message of a pending job, with the job's name: a report or a request to the client, after which
@@ -391,17 +398,11 @@ impl<T: Wait + Drop, J: Job> JobPool<T, J> {
         ensures none { IfNone result (pending_jobs self.new ≡ pending_jobs self.old) }
     {
         let (name, message) = self.table.take(&self.rt)?;
-        let said = match message {
-            WorkerMessage::Report(notification) => JobMessage::Report(notification),
-            WorkerMessage::Ask(method, params, number) => {
-                self.replies.was_taken(&self.rt, number);
-                JobMessage::Ask(method, params, number)
-            }
-            WorkerMessage::Ran(ran) => {
-                self.table.complete(&name);
-                JobMessage::Ran(ran)
-            }
-        };
-        Some((name, said))
+        match &message {
+            JobMessage::Report(_) => (),
+            JobMessage::Ask(_, _, number) => self.replies.lock(&self.rt).was_taken(*number),
+            JobMessage::Ran(_) => drop(self.table.complete(&name)),
+        }
+        Some((name, message))
     }
 }

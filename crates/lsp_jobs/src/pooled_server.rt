@@ -15,10 +15,10 @@ ghost use Rattle.lsp_jobs.specs.PoolView.{came_view, pending_jobs};
 ghost use Rattle.lsp_jobs.specs.Pooled.{reply_at, reply_with, unanswered, without_cancelled, Changes, ChangesJobs, Ends, EndsThen, Frees, IsAtOnce, Replaces, StartsOne, TakesLong};
 ghost use Rattle.lsp_jobs.specs.ServerView.{AnsweredSo};
 ghost use Rattle.lsp_jobs.specs.declared.names.JobName.TheVariants.{Request as OfRequest};
-ghost use Rattle.lsp_jobs.specs.Seen.{seen};
+ghost use Rattle.lsp_jobs.specs.Seen.{seen, seen_with};
 
 use crate::asking::RequestOrigin;
-use crate::job::{DoneJob, Interrupted, Job, Ran};
+use crate::job::{DoneJob, Interrupted, Job};
 use crate::job_server::{AnsweredBy, JobCommand, JobEnd, JobServer, KeyedJobs, StatesJobs};
 use crate::names::{JobKey, JobName};
 use crate::pool::{JobMessage, JobPool, SubmitFault};
@@ -120,7 +120,7 @@ where
     fn end_run(
         &mut self,
         name: JobName,
-        ran: Ran<J::Found>,
+        ran: Result<DoneJob<J::Found>, Interrupted>,
     ) -> Result<Vec<Act<S::PendingData>>, AllocError>
         ensures { IfOk result (λ acts.
             Ends ⟦<S as StatesJobs<J>>⟧.jobs name (end_of (came_view «ran»)) (reply_at name (came_view «ran»))
@@ -144,8 +144,7 @@ where
         acts: &mut Vec<Act<S::PendingData>>,
     ) -> Result<(), AllocError>
         ensures { IfOk result (λ _. EndsThen ⟦<S as StatesJobs<J>>⟧.jobs name.now (ended end)
-            (self.old.server, pending_jobs self.old.pool, map (act_view S.PendingData.eq) acts.old.items)
-            (self.new.server, pending_jobs self.new.pool, map (act_view S.PendingData.eq) acts.new.items)) }
+            (seen_with S.PendingData.eq self.old acts.old.items) (seen_with S.PendingData.eq self.new acts.new.items)) }
     {
         let mut more = S::KeyedJobs::ended(&mut self.server, name, end, self.alloc)?;
         self.forget_answered(&more);
@@ -251,8 +250,7 @@ where
     ) -> Result<Vec<Act<S::PendingData>>, AllocError>
         ensures { IfOk result (λ all.
             FoldsTo (Changes ⟦<S as StatesJobs<J>>⟧.jobs)
-            (self.old.server, pending_jobs self.old.pool, map (act_view S.PendingData.eq) acts.items) changes.items
-            (self.new.server, pending_jobs self.new.pool, map (act_view S.PendingData.eq) all.items)) }
+            (seen_with S.PendingData.eq self.old acts.items) changes.items (seen_with S.PendingData.eq self.new all.items)) }
     {
         let mut acts = acts;
         for change in changes {
@@ -268,8 +266,8 @@ where
         acts: &mut Vec<Act<S::PendingData>>,
     ) -> Result<(), AllocError>
         ensures { IfOk result (λ _. Changes ⟦<S as StatesJobs<J>>⟧.jobs
-            (self.old.server, pending_jobs self.old.pool, map (act_view S.PendingData.eq) acts.old.items) «change»
-            (self.new.server, pending_jobs self.new.pool, map (act_view S.PendingData.eq) acts.new.items)) }
+            (seen_with S.PendingData.eq self.old acts.old.items) «change»
+            (seen_with S.PendingData.eq self.new acts.new.items)) }
     {
         match change {
             JobCommand::Start(key, job) => self.replace(key, job, Duration::ZERO, acts),
@@ -287,8 +285,7 @@ where
         acts: &mut Vec<Act<S::PendingData>>,
     ) -> Result<(), AllocError>
         ensures { IfOk result (λ _. Replaces ⟦<S as StatesJobs<J>>⟧.jobs key «job»
-            (self.old.server, pending_jobs self.old.pool, map (act_view S.PendingData.eq) acts.old.items)
-            (self.new.server, pending_jobs self.new.pool, map (act_view S.PendingData.eq) acts.new.items)) }
+            (seen_with S.PendingData.eq self.old acts.old.items) (seen_with S.PendingData.eq self.new acts.new.items)) }
     {
         let name = JobName::Keyed(key);
         self.free(&name, JobEnd::Replaced, acts)?;
@@ -303,8 +300,7 @@ where
         acts: &mut Vec<Act<S::PendingData>>,
     ) -> Result<(), AllocError>
         ensures { IfOk result (λ _. Frees ⟦<S as StatesJobs<J>>⟧.jobs name.now (ended end)
-            (self.old.server, pending_jobs self.old.pool, map (act_view S.PendingData.eq) acts.old.items)
-            (self.new.server, pending_jobs self.new.pool, map (act_view S.PendingData.eq) acts.new.items)) }
+            (seen_with S.PendingData.eq self.old acts.old.items) (seen_with S.PendingData.eq self.new acts.new.items)) }
     {
         if self.pool.cancel(name) {
             return self.end_then(name, end, acts);
@@ -322,8 +318,7 @@ where
     ) -> Result<(), AllocError>
         ensures { IfOk result (λ _.
             StartsOne ⟦<S as StatesJobs<J>>⟧.jobs name «job»
-            (self.old.server, pending_jobs self.old.pool, map (act_view S.PendingData.eq) acts.old.items)
-            (self.new.server, pending_jobs self.new.pool, map (act_view S.PendingData.eq) acts.new.items)) }
+            (seen_with S.PendingData.eq self.old acts.old.items) (seen_with S.PendingData.eq self.new acts.new.items)) }
     {
         match self.pool.submit_under(&name, job, time) {
             Ok(()) => Ok(()),
@@ -336,7 +331,7 @@ where
 /// Returns the reply to the request of a job with this result, what it found, and how it ended if it found nothing.
 pub(crate) fn parts_of<F: Drop>(
     alloc: Global,
-    ran: Ran<F>,
+    ran: Result<DoneJob<F>, Interrupted>,
 ) -> Result<(Result<ResultText, ResponseError>, Option<F>, JobEnd), AllocError>
     ensures { IfOk result (λ parts. (outcome_view parts.0 ≡ reply_of (came_view «ran»))
         × (end_with parts.1 parts.2 ≡ end_of (came_view «ran»))) }

@@ -8,55 +8,46 @@ ghost use Rattle.lsp_jobs.specs.PendingJobs.{no_jobs, without, with_job};
 ghost use Rattle.lsp_jobs.specs.Waiting.{HaveTickets, MaySay, entry_of, pending_of};
 ghost use Rattle.lsp_jobs.specs.declared.names.JobName.TheVariants.{Request as OfRequest};
 
+use crate::asking::Replies;
 use crate::cancellation::CancellationToken;
-use crate::channel::{
-    AnyJob, Item, ItemPass, ItemReceiver, ItemSender, JobSender, Taking, WorkerMessage,
-    channel_of_items, sender_for,
-};
+use crate::channel::{Item, ItemPass, ItemSender, Known, Tickets, channel_of_items};
 use crate::entries::Entries;
-use crate::job::{Job, Ran};
+use crate::job::Job;
 use crate::names::JobName;
+use crate::pool::JobMessage;
+use crate::workers::{QueuedJob, with_ticket};
+use crossbeam_channel::RuledReceiver;
 use lsp_message::RequestId;
 use std::alloc::{AllocError, Global};
 use std::mem;
 use std::snapshot::Snapshot;
-use std::sync::Wait;
+use std::sync::{Arc, Mutex, Wait};
 
-/// A mark that somebody waits for a job. When it is dropped, the job's token is cancelled.
-pub(crate) struct Wanted {
-    token: CancellationToken,
-}
-
-impl Drop for Wanted {
-    fn drop(self) {
-        let Self { token } = self;
-        token.cancel();
-    }
-}
-
-/// A job that is pending.
-#[derive(Drop)]
+/// A job that is pending. When this is dropped, the job is to end, since nobody waits for it.
 pub(crate) struct Entry<J> {
     pub(crate) job: Snapshot<J>,
     pub(crate) ticket: u64,
-    wanted: Wanted,
+    token: Arc<CancellationToken, Global>,
 }
 
-impl<J> Entry<J> {
-    /// Cancels the job, and returns its ticket.
-    pub fn cancel(self) -> u64 {
-        let Entry { ticket, wanted, .. } = self;
-        drop(wanted);
-        ticket
+impl<J> Drop for Entry<J> {
+    fn drop(self) {
+        self.token.cancel();
+        let Self {
+            job: _,
+            ticket: _,
+            token: _,
+        } = self;
     }
 }
 
 /// The jobs that are pending, each with its ticket, and the end of the channel where the messages of jobs are taken.
 #[derive(Drop)]
 pub(crate) struct JobTable<J: Job> {
-    sender: ItemSender<J, Ran<J::Found>>,
-    receiver: ItemReceiver<J, Ran<J::Found>>,
-    pass: ItemPass<J, Ran<J::Found>>,
+    alloc: Global,
+    sender: ItemSender<J, J::Found>,
+    receiver: RuledReceiver<Item<J::Found>, Known<J>, Tickets>,
+    pass: ItemPass<J, J::Found>,
     next: u64,
     jobs: Entries<Entry<J>>,
     ghost known: { IsSeatAt (sends_on sender) pass × IsSeatAt (receives_on receiver) pass
@@ -69,8 +60,9 @@ impl<J: Job> JobTable<J> {
     pub fn new(alloc: Global) -> Result<JobTable<J>, AllocError>
         ensures { IfOk result (λ table. pending_of table.jobs ≡ no_jobs) }
     {
-        let (sender, receiver, pass) = channel_of_items::<J, Ran<J::Found>>(alloc)?;
+        let (sender, receiver, pass) = channel_of_items::<J>(alloc)?;
         Ok(JobTable {
+            alloc,
             sender,
             receiver,
             pass,
@@ -79,18 +71,14 @@ impl<J: Job> JobTable<J> {
         })
     }
 
-    /// Returns the ticket that the next job gets.
-    pub fn next_ticket(&self) -> u64 {
-        self.next
-    }
-
     /// Adds this job, which gets the next ticket. The error means that an allocation failed.
     pub fn enter(
         &mut self,
         name: JobName,
         job: J,
-        token: CancellationToken,
-    ) -> Result<(u64, JobSender<J, Ran<J::Found>>), AllocError>
+        token: Arc<CancellationToken, Global>,
+        replies: &Arc<Mutex<Replies>>,
+    ) -> Result<QueuedJob<J>, AllocError>
         ensures ok { OnOk result
             (pending_of self.new.jobs ≡ with_job name «job» (pending_of self.old.jobs)) }
         ensures err { OnErr result (pending_of self.new.jobs ≡ pending_of self.old.jobs) }
@@ -100,16 +88,25 @@ impl<J: Job> JobTable<J> {
             return Err(AllocError);
         };
         let same = name.clone()?;
-        let untaken = token.untaken()?;
+        let theirs = Arc::try_clone(&token)?;
         let entry = Entry {
             job: Snapshot::of(&job),
             ticket,
-            wanted: Wanted { token },
+            token,
         };
-        let job_sender = sender_for(&self.sender, &mut self.pass, ticket, same, job, untaken)?;
+        let queued = with_ticket(
+            self.alloc,
+            &self.sender,
+            &mut self.pass,
+            ticket,
+            same,
+            job,
+            theirs,
+            replies,
+        )?;
         self.next = next;
         match self.jobs.add(name, entry) {
-            Ok(()) => Ok((ticket, job_sender)),
+            Ok(()) => Ok(queued),
             Err(_) => Err(AllocError),
         }
     }
@@ -145,12 +142,12 @@ impl<J: Job> JobTable<J> {
     }
 
     /// Takes the next item of the channel.
-    fn take_item<T: Wait>(&mut self, rt: &T) -> Option<Item<Ran<J::Found>>>
+    fn take_item<T: Wait>(&mut self, rt: &T) -> Option<Item<J::Found>>
         ensures same { self.new.jobs ≡ self.old.jobs }
         ensures said { IfSome result (λ item.
-            IsSaidBy ⟦<J as AnyJob<Ran<J::Found>>>⟧.run_post J.reports J.asks (all_jobs (knows self.new.pass)) item) }
+            IsSaidBy J.Job (all_jobs (knows self.new.pass)) item) }
     {
-        match self.receiver.try_recv_as::<Taking, T>(rt, &mut self.pass) {
+        match self.receiver.try_recv_as::<Tickets, T>(rt, &mut self.pass) {
             Ok(item) => Some(item),
             Err(_) => None,
         }
@@ -158,13 +155,13 @@ impl<J: Job> JobTable<J> {
 
     /// Returns whether the job that this item names is pending with the item's ticket. If so, one message of that job
     /// counts as taken.
-    fn is_awaited(&self, item: &Item<Ran<J::Found>>) -> bool
+    fn is_awaited(&self, item: &Item<J::Found>) -> bool
         ensures { IsTrue result → (entry : Entry J)
             × (entry_of self.now.jobs item.now.name ≡ Some entry) × (entry.ticket ≡ item.now.ticket) }
     {
         match self.jobs.get(&item.name) {
             Some(entry) if entry.ticket == item.ticket => {
-                entry.wanted.token.took();
+                entry.token.remove();
                 true
             }
             _ => false,
@@ -172,10 +169,10 @@ impl<J: Job> JobTable<J> {
     }
 
     /// Takes the next message of a pending job, with that job's name. Messages of others are dropped.
-    pub fn take<T: Wait>(&mut self, rt: &T) -> Option<(JobName, WorkerMessage<Ran<J::Found>>)>
+    pub fn take<T: Wait>(&mut self, rt: &T) -> Option<(JobName, JobMessage<J::Found>)>
         ensures same { self.new.jobs ≡ self.old.jobs }
         ensures said { IfSome result (λ said.
-            MaySay ⟦<J as AnyJob<Ran<J::Found>>>⟧.run_post J.reports J.asks (pending_of self.old.jobs) said.0 said.1) }
+            MaySay J.Job (pending_of self.old.jobs) said.0 said.1) }
     {
         for _ in rt.forever() {
             let item = self.take_item(rt)?;

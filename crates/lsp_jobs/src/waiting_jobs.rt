@@ -7,99 +7,73 @@ use std::sync::atomic::{AtomicBool, AtomicU64, Ordering};
 use std::sync::{Arc, Mutex, Wait};
 use std::time::{Clock, Duration};
 
-/// The counts that need no lock.
+/// Counts the jobs that run. A worker counts one under the lock of the queue when it takes it. It stops counting the
+/// job when its work is done, before the result is sent, so that whoever receives the result finds the room. Workers
+/// that find no job sleep here.
 #[derive(Drop)]
-struct Counts {
+pub(crate) struct RunningJobs {
     /// The jobs that run.
     all: AtomicU64,
     /// Those of them that have keys.
     keyed: AtomicU64,
     /// How often a job may have become ready. A worker that finds none sleeps at this word.
     rings: AtomicU64,
+    /// Whether no further job will be added.
     is_closed: AtomicBool,
-}
-
-/// Counts the jobs that run. A worker counts one under the lock of the queue when it takes it. It stops counting the
-/// job when its work is done, before the result is sent, so that whoever receives the result finds the room.
-#[derive(Drop)]
-pub(crate) struct RunningJobs {
-    counts: Arc<Counts, Global>,
 }
 
 impl RunningJobs {
     /// Starts at no job. The error means that an allocation failed.
-    fn new(alloc: Global) -> Result<RunningJobs, AllocError> {
-        let counts = Counts {
+    fn new(alloc: Global) -> Result<Arc<RunningJobs, Global>, AllocError> {
+        let none = RunningJobs {
             all: AtomicU64::new(0),
             keyed: AtomicU64::new(0),
             rings: AtomicU64::new(0),
             is_closed: AtomicBool::new(false),
         };
-        match Arc::new(alloc, counts) {
-            Ok(counts) => Ok(RunningJobs { counts }),
+        match Arc::new(alloc, none) {
+            Ok(running) => Ok(running),
             Err(_) => Err(AllocError),
         }
     }
 
-    /// Makes a second owner of the count, for another thread.
-    fn share(&self) -> Result<RunningJobs, AllocError> {
-        Ok(RunningJobs {
-            counts: Arc::try_clone(&self.counts)?,
-        })
-    }
-
     fn begin(&self, is_keyed_job: bool) {
-        let _ = self.counts.all.fetch_add(1, Ordering::SeqCst);
+        let _ = self.all.fetch_add(1, Ordering::SeqCst);
         if is_keyed_job {
-            let _ = self.counts.keyed.fetch_add(1, Ordering::SeqCst);
+            let _ = self.keyed.fetch_add(1, Ordering::SeqCst);
         }
     }
 
     /// Counts that the work of one is done. If it had a key, another may begin.
     pub fn end(&self, is_keyed_job: bool) {
-        let _ = self.counts.all.fetch_sub(1, Ordering::SeqCst);
+        let _ = self.all.fetch_sub(1, Ordering::SeqCst);
         if is_keyed_job {
-            let _ = self.counts.keyed.fetch_sub(1, Ordering::SeqCst);
+            let _ = self.keyed.fetch_sub(1, Ordering::SeqCst);
             self.ring();
         }
     }
 
     /// Wakes a worker that sleeps.
     fn ring(&self) {
-        let _ = self.counts.rings.fetch_add(1, Ordering::SeqCst);
-        self.counts.rings.wake_one();
+        let _ = self.rings.fetch_add(1, Ordering::SeqCst);
+        self.rings.wake_one();
+    }
+
+    /// Makes each worker end.
+    fn close(&self) {
+        self.is_closed.store(true, Ordering::SeqCst);
+        let _ = self.rings.fetch_add(1, Ordering::SeqCst);
+        self.rings.wake_all();
     }
 
     /// Sleeps until a worker is woken after the count of rings was `seen`, or for this time.
     fn sleep<T: Wait>(&self, rt: &T, seen: u64, time: Option<Duration>) {
         let seen = (seen % 0x1_0000_0000) as u32;
         match time {
-            Some(time) => self.counts.rings.park_timeout(rt, seen, time),
-            None => self.counts.rings.park(rt, seen),
+            Some(time) => self.rings.park_timeout(rt, seen, time),
+            None => self.rings.park(rt, seen),
         }
     }
-}
-
-/// A mark that the queue is open. When it is dropped, each worker ends.
-struct Open {
-    running: RunningJobs,
-}
-
-impl Drop for Open {
-    fn drop(self) {
-        let Self { running } = self;
-        running.counts.is_closed.store(true, Ordering::SeqCst);
-        let _ = running.counts.rings.fetch_add(1, Ordering::SeqCst);
-        running.counts.rings.wake_all();
-    }
-}
-
-/// A job that is to start after a time.
-#[derive(Drop)]
-struct Later<E: Drop> {
-    /// When the time has passed, on the monotonic clock.
-    due: Duration,
-    job: E,
 }
 
 /// The jobs that wait, under their tickets, of which an older one is smaller.
@@ -107,15 +81,15 @@ struct Later<E: Drop> {
 struct Rows<E: Drop> {
     requests: BTreeMap<u64, E>,
     keyed: BTreeMap<u64, E>,
-    /// Those under keys that are to start after a time.
-    later: BTreeMap<u64, Later<E>>,
+    /// Those under keys that are to start after a time, each with the time on the monotonic clock when it has passed.
+    later: BTreeMap<u64, (Duration, E)>,
 }
 
 impl<E: Drop> Rows<E> {
     /// Adds a job under a key, which is to start at this time, or at once. Returns false if an allocation failed.
     fn add_keyed(&mut self, ticket: u64, job: E, due: Option<Duration>) -> bool {
         match due {
-            Some(due) => self.later.insert(ticket, Later { due, job }).is_ok(),
+            Some(due) => self.later.insert(ticket, (due, job)).is_ok(),
             None => self.keyed.insert(ticket, job).is_ok(),
         }
     }
@@ -135,7 +109,7 @@ impl<E: Drop> Rows<E> {
     }
 
     fn remove_later(&mut self, ticket: u64) -> Option<E> {
-        let Later { job, .. } = self.later.remove(&ticket)?;
+        let (_, job) = self.later.remove(&ticket)?;
         Some(job)
     }
 
@@ -150,7 +124,7 @@ impl<E: Drop> Rows<E> {
     }
 
     fn pop_later(&mut self) -> Option<E> {
-        let (_, Later { job, .. }) = self.later.pop_first()?;
+        let (_, (_, job)) = self.later.pop_first()?;
         Some(job)
     }
 
@@ -168,7 +142,7 @@ impl<E: Drop> Rows<E> {
     fn last_due(&self, now: Duration) -> Option<u64> {
         let mut last = None;
         for (ticket, later) in self.later.iter() {
-            if later.due <= now {
+            if later.0 <= now {
                 last = Some(*ticket);
             }
         }
@@ -179,34 +153,36 @@ impl<E: Drop> Rows<E> {
     fn time_left(&self, now: Duration) -> Option<Duration> {
         let mut least: Option<Duration> = None;
         for (_, later) in self.later.iter() {
-            let left = later.due.saturating_sub(now);
+            let left = later.0.saturating_sub(now);
             least = Some(least.map_or(left, |least| least.min(left)));
         }
         least
     }
 }
 
-/// What a worker does next.
-enum Next<E> {
-    /// It runs this job. The flag says whether other jobs wait for their time.
-    Run(E, bool),
-    /// It sleeps, at most for this time.
-    Sleep(Option<Duration>),
-}
-
-/// The end of the queue at which jobs are added, and taken back.
-#[derive(Drop)]
+/// The end of the queue at which jobs are added, and taken back. When it is dropped, each worker ends.
 pub(crate) struct WaitingJobs<E: Drop> {
     rows: Arc<Mutex<Rows<E>>>,
-    open: Open,
+    running: Arc<RunningJobs, Global>,
     size: PoolSize,
+}
+
+impl<E: Drop> Drop for WaitingJobs<E> {
+    fn drop(self) {
+        self.running.close();
+        let Self {
+            rows: _,
+            running: _,
+            size: _,
+        } = self;
+    }
 }
 
 /// The end of the queue at which a worker takes jobs.
 #[derive(Drop)]
 pub(crate) struct JobSource<E: Drop> {
     rows: Arc<Mutex<Rows<E>>>,
-    running: RunningJobs,
+    running: Arc<RunningJobs, Global>,
     /// How many jobs under keys may run at once.
     threads_for_keys: u64,
 }
@@ -229,20 +205,30 @@ pub(crate) fn queue_of_jobs<E: Drop>(
         running: RunningJobs::new(alloc)?,
         threads_for_keys: size.threads_for_keys() as u64,
     };
-    let running = source.running.share()?;
-    let open = Open { running };
-    Ok((WaitingJobs { rows, open, size }, source))
+    let running = Arc::try_clone(&source.running)?;
+    Ok((
+        WaitingJobs {
+            rows,
+            running,
+            size,
+        },
+        source,
+    ))
 }
 
 impl<E: Drop> WaitingJobs<E> {
     /// Returns whether one more job may wait or run. A job that waits for an idle worker takes that worker's room.
     pub fn has_room<T: Wait>(&self, rt: &T, is_keyed_job: bool) -> bool {
-        let counts = &self.open.running.counts;
         let rows = self.rows.lock(rt);
         let requests = rows.requests.len() as u64;
         let waiting = (rows.keyed.len() as u64).saturating_add(rows.later.len() as u64);
-        let keyed = counts.keyed.load(Ordering::SeqCst).saturating_add(waiting);
-        let all = counts
+        let keyed = self
+            .running
+            .keyed
+            .load(Ordering::SeqCst)
+            .saturating_add(waiting);
+        let all = self
+            .running
             .all
             .load(Ordering::SeqCst)
             .saturating_add(requests)
@@ -275,7 +261,7 @@ impl<E: Drop> WaitingJobs<E> {
         if !is_added {
             return Err(AllocError);
         }
-        self.open.running.ring();
+        self.running.ring();
         Ok(())
     }
 
@@ -322,7 +308,7 @@ impl<E: Drop> JobSource<E> {
     pub fn another(&self) -> Result<JobSource<E>, AllocError> {
         Ok(JobSource {
             rows: Arc::try_clone(&self.rows)?,
-            running: self.running.share()?,
+            running: Arc::try_clone(&self.running)?,
             threads_for_keys: self.threads_for_keys,
         })
     }
@@ -332,47 +318,50 @@ impl<E: Drop> JobSource<E> {
         &self.running
     }
 
-    /// Takes the oldest job of a request. If none waits, it takes one under a key, unless as many of those run as may:
-    /// the youngest of those whose time has passed, or the oldest of those that start at once. The job counts as
-    /// running from now on.
-    fn take<T: Wait + Clock>(&self, rt: &T) -> Next<E> {
-        let mut rows = self.rows.lock(rt);
-        if let Some((_, job)) = rows.requests.pop_first() {
-            self.running.begin(false);
-            return Next::Run(job, !rows.later.is_empty());
-        }
-        if self.running.counts.keyed.load(Ordering::SeqCst) >= self.threads_for_keys {
-            return Next::Sleep(None);
-        }
-        let now = time_of(rt);
-        match rows.pop_keyed(now) {
-            Some(job) => {
-                self.running.begin(true);
-                Next::Run(job, !rows.later.is_empty())
-            }
-            None => Next::Sleep(rows.time_left(now)),
-        }
-    }
-
-    /// Waits for a job. `None` means that no further job will be added.
+    /// Takes the oldest job of a request. If none waits, it takes one under a key. The job counts as running from now
+    /// on. The error means that no job is ready, and says how long the worker sleeps at most.
     ///
     /// While jobs wait for their time, one of the workers that sleep wakes when the first is due. So a worker that takes
     /// a job wakes another one.
+    fn take<T: Wait + Clock>(&self, rt: &T) -> Result<E, Option<Duration>> {
+        let mut rows = self.rows.lock(rt);
+        let job = match rows.requests.pop_first() {
+            Some((_, job)) => {
+                self.running.begin(false);
+                job
+            }
+            None => self.take_keyed(rt, &mut rows)?,
+        };
+        if !rows.later.is_empty() {
+            self.running.ring();
+        }
+        Ok(job)
+    }
+
+    /// Takes a job under a key, unless as many of those run as may: the youngest of those whose time has passed, or the
+    /// oldest of those that start at once.
+    fn take_keyed<T: Clock>(&self, rt: &T, rows: &mut Rows<E>) -> Result<E, Option<Duration>> {
+        if self.running.keyed.load(Ordering::SeqCst) >= self.threads_for_keys {
+            return Err(None);
+        }
+        let now = time_of(rt);
+        let Some(job) = rows.pop_keyed(now) else {
+            return Err(rows.time_left(now));
+        };
+        self.running.begin(true);
+        Ok(job)
+    }
+
+    /// Waits for a job. `None` means that no further job will be added.
     pub fn next<T: Wait + Clock>(&self, rt: &T) -> Option<E> {
-        let counts = &self.running.counts;
         for _ in rt.forever() {
-            let seen = counts.rings.load(Ordering::SeqCst);
-            if counts.is_closed.load(Ordering::SeqCst) {
+            let seen = self.running.rings.load(Ordering::SeqCst);
+            if self.running.is_closed.load(Ordering::SeqCst) {
                 return None;
             }
             match self.take(rt) {
-                Next::Run(job, others_wait) => {
-                    if others_wait {
-                        self.running.ring();
-                    }
-                    return Some(job);
-                }
-                Next::Sleep(time) => self.running.sleep(rt, seen, time),
+                Ok(job) => return Some(job),
+                Err(time) => self.running.sleep(rt, seen, time),
             }
         }
         unreachable!()

@@ -1,13 +1,24 @@
 // The threads that run jobs. Each is started for any such job, since the check finds that it may own its ends only if it need not
 // look into the types.
-use crate::asking::Asker;
-use crate::channel::{AnyJob, JobSender};
-use crate::job::{Job, Ran};
+ghost use Rattle.std.specs.Prelude.{◌≡◌, ◌∷◌, ◌++◌, [], length, OnErr, OnOk, Some};
+ghost use Rattle.crossbeam_channel.specs.Claims.{IsSeatAt, view as knows};
+ghost use Rattle.crossbeam_channel.specs.Ends.{sends_on};
+ghost use Rattle.lsp_jobs.specs.Outcomes.{KnowsAll, all_jobs};
+ghost use Rattle.lsp_jobs.specs.declared.channel.Known.TheVariants.{All, One};
+
+use crate::asking::Replies;
+use crate::cancellation::CancellationToken;
+use crate::channel::{ItemPass, ItemSender, ticket_for};
+use crate::job::{Job, run_as_text};
+use crate::names::JobName;
 use crate::notifier::Notifier;
 use crate::pool::PoolSize;
+use crate::reporter::{Picked, Reporter};
 use crate::waiting_jobs::{JobSource, RunningJobs};
 use lsp_threads::StartFault;
-use std::sync::Wait;
+use std::alloc::{AllocError, Global};
+use std::marker::{Brand, PhantomData};
+use std::sync::{Arc, Mutex, Wait};
 use std::thread::{Builder, JoinHandle, Threads};
 use std::time::Clock;
 
@@ -28,20 +39,60 @@ pub(crate) trait Work: Drop {
     ) -> N;
 }
 
-/// A job for a worker.
+/// A job for a worker, with its ticket, its name, and the end of the channel for its messages.
 #[derive(Drop)]
-pub(crate) struct QueuedJob<J: AnyJob<R>, R: Drop> {
-    pub(crate) job_sender: JobSender<J, R>,
-    pub(crate) asker: Asker,
+pub(crate) struct QueuedJob<J: Job> {
+    alloc: Global,
+    job: J,
+    pub(crate) ticket: u64,
+    name: JobName,
+    token: Arc<CancellationToken, Global>,
+    replies: Arc<Mutex<Replies>>,
+    sender: ItemSender<J, J::Found>,
+    pass: ItemPass<J, J::Found>,
+    ghost known: { IsSeatAt (sends_on sender) pass × (knows pass ≡ One ticket job) },
 }
 
-impl<J: AnyJob<R>, R: Drop> Work for QueuedJob<J, R> {
+/// Gives the next ticket, which has this number, to a job. The error means that an allocation failed, and nothing
+/// changed.
+pub(crate) fn with_ticket<J: Job>(
+    alloc: Global,
+    sender: &ItemSender<J, J::Found>,
+    pass: &mut ItemPass<J, J::Found>,
+    ticket: u64,
+    name: JobName,
+    job: J,
+    token: Arc<CancellationToken, Global>,
+    replies: &Arc<Mutex<Replies>>,
+) -> Result<QueuedJob<J>, AllocError>
+    requires seat { IsSeatAt (sends_on sender.now) pass.old }
+    requires all { KnowsAll (knows pass.old) × (length (all_jobs (knows pass.old)) ≡ ticket) }
+    ensures seat { IsSeatAt (sends_on sender.now) pass.new × (pass.new.id ≡ pass.old.id) }
+    ensures ok { OnOk result (knows pass.new ≡ All (all_jobs (knows pass.old) ++ «job» ∷ [])) }
+    ensures err { OnErr result (knows pass.new ≡ knows pass.old) }
+{
+    let replies = Arc::try_clone(replies)?;
+    let theirs = sender.try_clone()?;
+    let job_pass = ticket_for::<Brand, J>(sender, pass, &job);
+    Ok(QueuedJob {
+        alloc,
+        job,
+        ticket,
+        name,
+        token,
+        replies,
+        sender: theirs,
+        pass: job_pass,
+    })
+}
+
+impl<J: Job> Work for QueuedJob<J> {
     fn is_wanted(&self) -> bool {
-        !self.asker.is_cancelled()
+        !self.token.is_cancelled()
     }
 
     fn end(self, running: &RunningJobs) {
-        running.end(self.job_sender.is_keyed_job());
+        running.end(self.name.is_keyed());
         drop(self);
     }
 
@@ -51,9 +102,47 @@ impl<J: AnyJob<R>, R: Drop> Work for QueuedJob<J, R> {
         notifier: N,
         running: &RunningJobs,
     ) -> N {
-        let QueuedJob { job_sender, asker } = self;
-        job_sender.perform(rt, asker, notifier, running)
+        perform::<Brand, T, J, N>(self, rt, notifier, running)
     }
+}
+
+/// Performs a job, and sends its messages. When its work is done, it no longer counts as running. Nothing is sent if
+/// nobody waits for it any longer.
+fn perform<W: Picked<J>, T: Wait + Copy + Drop, J: Job, N: Notifier>(
+    queued: QueuedJob<J>,
+    rt: T,
+    notifier: N,
+    running: &RunningJobs,
+) -> N
+    requires { W.job ≡ Some queued.job }
+{
+    let QueuedJob {
+        alloc,
+        job,
+        ticket,
+        name,
+        token,
+        replies,
+        sender,
+        pass,
+    } = queued;
+    let mut reporter: Reporter<W, T, J, N> = Reporter {
+        of: PhantomData,
+        rt,
+        alloc,
+        notifier,
+        ticket,
+        name,
+        token,
+        replies,
+        is_shown: false,
+        sender,
+        pass,
+        last: None,
+    };
+    let outcome = run_as_text(job, alloc, &mut reporter);
+    reporter.end();
+    reporter.finish(outcome, running)
 }
 
 /// Runs jobs until no further job will be added.
@@ -131,7 +220,7 @@ where
 pub(crate) fn start_job_workers<T, J, N>(
     rt: &T,
     size: PoolSize,
-    waiting: JobSource<QueuedJob<J, Ran<J::Found>>>,
+    waiting: JobSource<QueuedJob<J>>,
     notifier: &mut N,
     workers: &mut Vec<JoinHandle<()>>,
 ) -> Result<(), StartFault>
@@ -141,7 +230,7 @@ where
     J::Found: Send + 'static,
     N: Notifier + Send + 'static,
 {
-    start_workers::<T, QueuedJob<J, Ran<J::Found>>, N>(rt, size, waiting, notifier, workers)
+    start_workers::<T, QueuedJob<J>, N>(rt, size, waiting, notifier, workers)
 }
 
 /// Joins threads.

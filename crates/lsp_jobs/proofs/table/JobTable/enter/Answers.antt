@@ -11,8 +11,8 @@ use Rattle.lsp_jobs.proofs.table.JobTable.enter.Goals as goal
 pub invariant_of-self : goal.invariant_of-self
 invariant_of-self g c =
     let known = c.args.self.now.known in
-    let seat = c.sender_for.ensures.seat.0 in
-    let same : knows c.sender_for.new.pass ≡ knows c.args.self.now.pass = c.in_err-job_sender.ensures.err in
+    let seat = c.with_ticket.ensures.seat.0 in
+    let same : knows c.with_ticket.new.pass ≡ knows c.args.self.now.pass = c.in_err-queued.ensures.err in
     record {
       known = (
         seat,
@@ -27,9 +27,9 @@ invariant_of-self g c =
 pub invariant_of-self-2 : goal.invariant_of-self-2
 invariant_of-self-2 g c =
     let known = c.args.self.now.known in
-    let seat = c.sender_for.ensures.seat.0 in
+    let seat = c.with_ticket.ensures.seat.0 in
     let jobs = all_jobs (knows c.args.self.now.pass) in
-    let grown = c.in_ok-job_sender.ensures.ok in
+    let grown = c.in_ok-queued.ensures.ok in
     record {
       known = (
         seat,

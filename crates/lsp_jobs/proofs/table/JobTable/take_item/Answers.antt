@@ -8,7 +8,7 @@ use Rattle.lsp_jobs.specs.declared.channel.Known.{Known}
 use Rattle.lsp_jobs.proofs.table.JobTable.take_item.Goals as goal
 
 pub try_recv_as-requires-clause-rule : goal.try_recv_as-requires-clause-rule
-try_recv_as-requires-clause-rule g c = (takes _ _ _ _ _ c.args.self.now.known.2, λ sent known h seen. tt)
+try_recv_as-requires-clause-rule g c = (takes g.J.Job _ _ c.args.self.now.known.2, λ sent known h seen. tt)
 
 pub invariant_of-self : goal.invariant_of-self
 invariant_of-self g c =
