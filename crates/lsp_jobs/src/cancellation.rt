@@ -7,10 +7,11 @@ use std::time::Duration;
 /// How many messages of a job may wait to be taken.
 const MESSAGES: u64 = 16;
 
-/// How many of them may be reports that can be dropped. One place is kept for a message that can't.
+/// How many of these messages may be reports, which can be dropped. One place is kept for a message that can't be
+/// dropped.
 const REPORTS: u64 = 15;
 
-/// Is added when nobody waits for the job any longer.
+/// This is added to the count when nobody waits for the job any longer.
 const CANCELLED: u64 = 0x8000_0000;
 
 /// Says whether a job is to end: nobody waits for its outcome any longer (LSP 3.17, "Cancellation Support"), or its
