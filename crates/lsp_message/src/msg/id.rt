@@ -173,8 +173,12 @@ impl RequestId {
     ghost use Rattle.lsp_message.specs.Ranges.{IsIdInRange};
     ghost use Rattle.lsp_message.specs.Tree.{id_tree};
 
-    // The member `id` of a message.
-    pub(crate) fn to_value(&self, alloc: Global) -> Result<Value, AllocError>
+    /// Returns the id as a JSON value: a number or a text (JSON-RPC 2.0, section 4). `RequestId::from_value` reads it
+    /// back.
+    ///
+    /// Use it for an id in params, such as those of `$/cancelRequest`. `Err` means that the allocation for a text
+    /// failed.
+    pub fn to_value(&self, alloc: Global) -> Result<Value, AllocError>
         ensures tree { IfOk result (λ v. view v ≡ id_tree self.now) }
         ensures good { as_id (id_tree self.now) ≡ Some self.now }
         ensures range { IsIdInRange self.now }
