@@ -1,5 +1,5 @@
 // A frame, written to a writer.
-ghost use Rattle.std.specs.Prelude.{◌≡◌, ◌<◌, ◌^◌, length, Err, IfOk, IfErr, OnOk, string_bytes};
+ghost use Rattle.std.specs.Prelude.{◌≡◌, ◌<◌, ◌^◌, [], ◌∷◌, ◌++◌, length, Err, IfOk, IfErr, OnOk, codes, decimal, string_bytes};
 ghost use Rattle.std.specs.Result.{result_err};
 ghost use Rattle.std.specs.Io.KnownBytes.{Appends};
 ghost use Rattle.lsp_message.specs.Failures.{WriterFails};
@@ -8,7 +8,8 @@ ghost use Rattle.lsp_message.specs.Written.{frame_text, AppendsBeginning, IsOutp
 
 use crate::frame::WriteFault;
 use crate::frame::byte_trace::ByteTrace;
-use std::alloc::{AllocError, Global};
+use arrayvec::ArrayString;
+use std::alloc::AllocError;
 use std::fmt::Write as _;
 use std::io::{ErrorKind, Write};
 
@@ -17,7 +18,6 @@ pub(crate) const HEADER_ROOM: usize = 40;
 
 /// Writes the frame of a body, and flushes once.
 pub(crate) fn write_body<W: Write>(
-    alloc: Global,
     writer: &mut W,
     body: String,
     given: &mut ByteTrace,
@@ -32,7 +32,7 @@ pub(crate) fn write_body<W: Write>(
         given.new.parts (W.contents writer.old) (W.contents writer.new) }
     ensures failed { WriterFails (result_err result) given.old given.new }
 {
-    let frame = with_header(alloc, body)?;
+    let frame = with_header(body)?;
     write_frames_traced(writer, frame.as_str(), given)
 }
 
@@ -76,16 +76,25 @@ pub fn write_frames_traced<W: Write>(
 }
 
 /// Adds the header part before the body, in the body's own room.
-pub(crate) fn with_header(alloc: Global, body: String) -> Result<String, AllocError>
+pub(crate) fn with_header(body: String) -> Result<String, AllocError>
     ensures text { IfOk result (λ frame. string_bytes frame ≡ frame_text (string_bytes body)) }
     ensures length { OnOk result (length (string_bytes body) < 2 ^ 64) }
 {
     let mut frame = body;
     let length = frame.len();
-    let mut header = String::with_capacity(alloc, HEADER_ROOM)?;
-    write!(header, "Content-Length: {length}\r\n\r\n").map_err(|_| AllocError)?;
+    let header = header_part(length)?;
     frame.insert_str(0, header.as_str())?;
     Ok(frame)
+}
+
+/// Composes the header part of a content part that has this many bytes. It always has room, and needs no memory.
+fn header_part(length: usize) -> Result<ArrayString<HEADER_ROOM>, AllocError>
+    ensures { IfOk result (λ header. header.bytes
+        ≡ codes "Content-Length: " ++ (decimal length ++ 13 ∷ 10 ∷ 13 ∷ 10 ∷ [])) }
+{
+    let mut header = ArrayString::new();
+    write!(header, "Content-Length: {length}\r\n\r\n").map_err(|_| AllocError)?;
+    Ok(header)
 }
 
 /// Writes all the bytes, or a prefix of them. An interrupted write is a fault, as any other.

@@ -143,7 +143,7 @@ impl Message {
         ensures failed { WriterFails (result_err result) given.old given.new }
     {
         let body = self.body_text(alloc)?;
-        write_body(alloc, writer, body, given)
+        write_body(writer, body, given)
     }
 
     /// Makes the frame of the message: the bytes that `write` writes (LSP 3.17, "Base Protocol"). The error means that
@@ -154,7 +154,7 @@ impl Message {
         ensures { IfOk result (λ frame. IsFrameOf (message_view self.now) (string_bytes frame)) }
     {
         let body = self.body_text(alloc)?;
-        with_header(alloc, body)
+        with_header(body)
     }
 }
 

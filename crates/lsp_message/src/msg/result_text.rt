@@ -115,12 +115,12 @@ impl ResultText {
     }
 
     /// Makes the frame of the response with this id and this result: the bytes that `Message::to_frame` makes for it
-    /// (LSP 3.17, "Base Protocol"). The text is copied, and not read. The error means that an allocation failed.
+    /// (LSP 3.17, "Base Protocol"). The text is not read. The error means that an allocation failed.
     pub fn into_frame(self, alloc: Global, id: &RequestId) -> Result<String, AllocError>
         ensures { IfOk result (λ frame. IsFrameOf (response id.now (Ok (view self))) (string_bytes frame)) }
     {
         let body = self.into_body(alloc, id)?;
-        with_header(alloc, body)
+        with_header(body)
     }
 
     /// Writes the response with this id and this result, as `Message::write_traced` does, and adds the bytes that the
@@ -143,7 +143,7 @@ impl ResultText {
         ensures failed { WriterFails (result_err result) given.old given.new }
     {
         let body = self.into_body(alloc, id)?;
-        write_body(alloc, writer, body, given)
+        write_body(writer, body, given)
     }
 
     /// Makes the content part of the response with this id and this result.
@@ -154,7 +154,7 @@ impl ResultText {
             MeansAgain (response id.now (Ok (view self))) (string_bytes body)) }
     {
         match self.kept {
-            Kept::Text(text, seen) => result_body(alloc, id, text.as_str(), seen),
+            Kept::Text(text, seen) => result_body(alloc, id, text, seen),
             Kept::Tree(tree) => body_of_tree(alloc, id, tree),
         }
     }
@@ -186,5 +186,5 @@ fn body_of_tree(alloc: Global, id: &RequestId, tree: Value) -> Result<String, Al
     let text = tree.to_string(alloc)?;
     let seen = Snapshot::of(&tree);
     drop(tree);
-    result_body(alloc, id, text.as_str(), seen)
+    result_body(alloc, id, text, seen)
 }

@@ -16,6 +16,7 @@ ghost use Rattle.lsp_message.specs.Text.{IsValueText, named, IsLaterMember, IsEr
 ghost use Rattle.lsp_message.specs.Written.{MeansAgain};
 ghost use Rattle.lsp_message.specs.View.{error_view, request_view, notification_view, response_view, message_view};
 
+use crate::frame::write::HEADER_ROOM;
 use crate::msg::{Message, Notification, Request, RequestId, Response, ResponseError};
 use serde_json::Value;
 use std::alloc::{AllocError, Global};
@@ -24,6 +25,9 @@ use std::snapshot::Snapshot;
 
 // Room for the text of a message with few params, which then grows in no step.
 const USUAL_LENGTH: usize = 256;
+
+// Room for what a frame has around a value and the members before it: its header part and the braces at its end.
+const ROOM_AROUND: usize = HEADER_ROOM + 2;
 
 fn value_text(alloc: Global, value: &Value) -> Result<String, AllocError>
     ensures { IfOk result (λ s. IsValueText (view value.now) (string_bytes s)) }
@@ -74,13 +78,22 @@ fn push_name(out: &mut String, before: &str, name: &str) -> Result<(), AllocErro
     out.push_str("\":")
 }
 
-// Adds a member.
-fn push_named(out: &mut String, before: &str, name: &str, value: &str) -> Result<(), AllocError>
+// Adds a member whose value has this text. If there is no room for it, what stands before it is inserted into the text.
+// So a long text is not copied.
+fn push_named(out: &mut String, before: &str, name: &str, value: String) -> Result<(), AllocError>
     ensures { OnOk result (string_bytes out.new
-        ≡ string_bytes out.old ++ named before.now name.now value.now) }
+        ≡ string_bytes out.old ++ named before.now name.now (string_bytes value)) }
 {
     push_name(out, before, name)?;
-    out.push_str(value)
+    let room = out.capacity().saturating_sub(out.len());
+    if value.len().saturating_add(ROOM_AROUND) <= room {
+        return out.push_str(value.as_str());
+    }
+    let mut text = value;
+    text.reserve_exact(out.len().saturating_add(ROOM_AROUND))?;
+    text.insert_str(0, out.as_str())?;
+    *out = text;
+    Ok(())
 }
 
 fn push_number(out: &mut String, before: &str, name: &str, number: i32) -> Result<(), AllocError>
@@ -127,7 +140,7 @@ fn push_later_member(
 {
     if let Some(value) = value {
         let text = value_text(alloc, value)?;
-        push_named(out, ",", name, text.as_str())?;
+        push_named(out, ",", name, text)?;
     }
     Ok(())
 }
@@ -200,7 +213,7 @@ fn push_result(
     ensures range { OnOk result (IsIdInRange id.now) }
 {
     let text = value_text(alloc, value)?;
-    push_result_text(out, alloc, before, id, text.as_str())
+    push_result_text(out, alloc, before, id, text)
 }
 
 // Adds a response whose result has this text.
@@ -209,9 +222,9 @@ fn push_result_text(
     alloc: Global,
     before: &str,
     id: &RequestId,
-    text: &str,
+    text: String,
 ) -> Result<(), AllocError>
-    ensures text { OnOk result ((tree : Data) → IsValueText tree text.now
+    ensures text { OnOk result ((tree : Data) → IsValueText tree (string_bytes text)
         → Adds (IsTextFrom before.now (response id.now (Ok tree)))
         (string_bytes out.old) (string_bytes out.new)) }
     ensures range { OnOk result (IsIdInRange id.now) }
@@ -222,21 +235,20 @@ fn push_result_text(
     Ok(())
 }
 
-// The content part of a response whose result has this text. Clauses alone see its tree. There is room for the header part.
+// The content part of a response whose result has this text. Clauses alone see its tree.
 pub(super) fn result_body(
     alloc: Global,
     id: &RequestId,
-    text: &str,
+    text: String,
     tree: Snapshot<Value>,
 ) -> Result<String, AllocError>
-    requires { IsValueText (view tree.value) text.now }
+    requires { IsValueText (view tree.value) (string_bytes text) }
     ensures text { IfOk result (λ s.
         IsBodyOf (response id.now (Ok (view tree.value))) (string_bytes s)) }
     ensures reads_back { IfOk result (λ s. MeansAgain (response id.now (Ok (view tree.value))) (string_bytes s)) }
 {
-    let room = text.len().saturating_add(USUAL_LENGTH);
     let _tree = tree;
-    let mut out = String::with_capacity(alloc, room)?;
+    let mut out = String::with_capacity(alloc, USUAL_LENGTH)?;
     push_result_text(&mut out, alloc, "{\"jsonrpc\":\"2.0\",", id, text)?;
     Ok(out)
 }

@@ -8,7 +8,7 @@ use Rattle.lsp_message.proofs.msg.text.push_result_text.Goals as goal
 pub returns-clause-text : goal.returns-clause-text
 returns-clause-text c = λ tree is.
     let old = string_bytes c.args.out.now in
-    let text = c.args.text.now in
+    let text = string_bytes c.args.text in
     let id = named c.args.before.now (codes "id") (compact_text (id_tree c.args.id.now)) in
     let result = named (codes ",") (codes "result") text in
     let second : string_bytes c.push_named.new.out ≡ string_bytes c.push_id.new.out
