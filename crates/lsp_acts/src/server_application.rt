@@ -1,10 +1,8 @@
 // A server beside its queues: what it does at a message, and the queues of requests that have no reply yet.
-ghost use Rattle.serde_json.specs.Find.{get};
 ghost use Rattle.serde_json.specs.View.{view};
-ghost use Rattle.std.specs.Prelude.{◌≡◌, map, List, [], string_bytes, true, codes, IfOk, IsOk, IsSome, Ok, Err, Some, None};
+ghost use Rattle.std.specs.Prelude.{◌≡◌, map, List, [], string_bytes, true, IfOk, IsOk, Ok, Err, Some, None};
 ghost use Rattle.lsp_message.specs.ErrorCode.{number_of};
 ghost use Rattle.lsp_message.specs.Message.{notification};
-ghost use Rattle.lsp_message.specs.Tree.{id_tree};
 ghost use Rattle.lsp_message.specs.View.{message_view, request_view, notification_view, response_view, outcome_view};
 ghost use Rattle.lsp_message.specs.declared.msg.code.ErrorCode.TheVariants.{RequestCanceled};
 ghost use Rattle.lsp_queue.specs.Queue.{count_of};
@@ -118,7 +116,7 @@ impl<P: Drop + PartialEq> Queues<P> {
         let ids = self.requests.outgoing.ids_of(&payload)?;
         drop(payload);
         for id in ids {
-            let notification = cancellation(self.alloc, id)?;
+            let notification = cancellation(self.alloc, &id)?;
             self.send(Message::Notification(notification))?;
         }
         Ok(())
@@ -204,9 +202,9 @@ impl<P: Drop + PartialEq> Queues<P> {
 }
 
 /// Makes the notification that cancels a request (LSP 3.17, "Cancellation Support").
-fn cancellation(alloc: Global, id: RequestId) -> Result<Notification, AllocError>
+fn cancellation(alloc: Global, id: &RequestId) -> Result<Notification, AllocError>
     ensures { IfOk result (λ n.
-        notification_view n ≡ notification cancel_method (cancel_params_spec id)) }
+        notification_view n ≡ notification cancel_method (cancel_params_spec id.now)) }
 {
     let method = String::from_str(alloc, "$/cancelRequest")?;
     let params = cancel_params(alloc, id)?;
@@ -225,37 +223,12 @@ fn canceled_outcome(
     Ok(Err(error))
 }
 
-fn cancel_params(alloc: Global, id: RequestId) -> Result<Value, AllocError>
-    ensures { IfOk result (λ params. view params ≡ cancel_params_spec id) }
+fn cancel_params(alloc: Global, id: &RequestId) -> Result<Value, AllocError>
+    ensures { IfOk result (λ params. view params ≡ cancel_params_spec id.now) }
 {
-    let id = id_value(alloc, id)?;
     let mut members = Map::new(alloc);
-    put(&mut members, alloc, "id", id)?;
+    put(&mut members, alloc, "id", id.to_value(alloc)?)?;
     Ok(Value::Object(members))
-}
-
-/// Returns the id as a value.
-fn id_value(alloc: Global, id: RequestId) -> Result<Value, AllocError>
-    ensures { IfOk result (λ value. view value ≡ id_tree id) }
-{
-    let reply = Message::Response(Response {
-        id,
-        response_result: Ok(Value::Null),
-    });
-    let tree = reply.to_value(alloc)?;
-    drop(reply);
-    copy_of_id(&tree)
-}
-
-/// Copies the member `id`.
-fn copy_of_id(tree: &Value) -> Result<Value, AllocError>
-    requires { IsSome (get (codes "id") (view tree.now)) }
-    ensures { IfOk result (λ id. get (codes "id") (view tree.now) ≡ Some (view id)) }
-{
-    match tree.get("id") {
-        Some(id) => Ok(id.clone()?),
-        None => Ok(Value::Null),
-    }
 }
 
 /// Returns the id of the request that a notification cancels (LSP 3.17, "Cancellation Support"). It is `None` if the
