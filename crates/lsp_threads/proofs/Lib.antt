@@ -2,6 +2,7 @@ pub mod ContentReads
 pub mod ContentStream
 pub mod ContentWaits
 pub mod ContentsSend
+pub mod Failing
 pub mod Flushing
 pub mod Frames
 pub mod FrameTextSend
@@ -11,6 +12,7 @@ pub mod Handed
 pub mod HeaderFaults
 pub mod Leaving
 pub mod Order
+pub mod RefusedFailures
 pub mod RefusedOrder
 pub mod RefusedParts
 pub mod RefusedReplies

@@ -119,7 +119,23 @@ module _ (wakeable : Bool) {L : Type 0} (passes : L → ReadFault → L → Type
   started_told_as P Q to contents answer_of (Some text) old (Ok done) tells = over_as P Q to _ (text, first) _ _ tells
   started_told_as P Q to contents answer_of (Some text) old (Err fault) tells = tt
 
-  -- the same of the bytes that were taken
+  -- the same of the bytes that were taken, also if it is described by its result
+  pub each_told_as : {T F : Type 0} (P Q : T → SessionPart)
+      (to : (done : T) (xs : List Exchange) (stop : Stop) (answer : SessionAnswer)
+      → P done xs stop answer → Q done xs stop answer)
+      (taken : T → Parts) (given : T → Option (List ℕ)) (answer_of : T → Result SessionEnd SessionFault)
+      (result : Result T F)
+      → IfOk result (λ done. OfTaken (taken done) (λ text. ThreadsTellOver wakeable passes limit (P done) text first last
+      (Some []) (given done) (answer_of done)))
+      → IfOk result (λ done. OfTaken (taken done) (λ text. ThreadsTellOver wakeable passes limit (Q done) text first last
+      (Some []) (given done) (answer_of done)))
+  each_told_as P Q to taken given answer_of (Ok done) tells = λ rest ends. over_as (P done) (Q done) (to done) _ (
+    concat (taken done)
+        ++ rest,
+    first,
+  ) _ _ (tells rest ends)
+  each_told_as P Q to taken given answer_of (Err fault) tells = tt
+
   pub taken_told_as : (P Q : SessionPart)
       (to : (xs : List Exchange) (stop : Stop) (answer : SessionAnswer)
       → P xs stop answer → Q xs stop answer)
@@ -129,12 +145,8 @@ module _ (wakeable : Bool) {L : Type 0} (passes : L → ReadFault → L → Type
       (Some []) (given done) (answer_of done)))
       → IfOk result (λ done. OfTaken (taken done) (λ text. ThreadsTellOver wakeable passes limit Q text first last
       (Some []) (given done) (answer_of done)))
-  taken_told_as P Q to taken given answer_of (Ok done) tells = λ rest ends. over_as P Q to _ (
-    concat (taken done)
-        ++ rest,
-    first,
-  ) _ _ (tells rest ends)
-  taken_told_as P Q to taken given answer_of (Err fault) tells = tt
+  taken_told_as P Q to taken given answer_of result = each_told_as (λ done. P) (λ done. Q) (λ done. to) taken given
+      answer_of result
 
   -- A policy that passes over nothing: each frame is a message, and each wake is given by others.
   module _ (never : SkipsNoContent passes) where
@@ -175,19 +187,19 @@ module _ (wakeable : Bool) {L : Type 0} (passes : L → ReadFault → L → Type
         (answer_of done) tells
     started_untold P contents answer_of (Some text) old (Err fault) tells = tt
 
-    -- the same of the bytes that were taken, if it is described otherwise
-    pub started_told : (P Q : SessionPart)
-        (to : (xs : List Exchange) (stop : Stop) (answer : SessionAnswer)
-        → P xs stop answer → Q xs stop answer)
-        {T F : Type 0} (taken : T → Parts) (given : T → Option (List ℕ)) (answer_of : T → Result SessionEnd
-        SessionFault) (result : Result T F)
-        → IfOk result (λ done. OfTaken (taken done) (λ text. ThreadsTellOver wakeable passes limit P text first last
-        (Some []) (given done) (answer_of done)))
-        → IfOk result (λ done. OfTaken (taken done) (λ text. ThreadsGiveOver wakeable limit Q text (Some [])
+    -- the same of the bytes that were taken, if it is described otherwise, also by its result
+    pub started_told : {T F : Type 0} (P Q : T → SessionPart)
+        (to : (done : T) (xs : List Exchange) (stop : Stop) (answer : SessionAnswer)
+        → P done xs stop answer → Q done xs stop answer)
+        (taken : T → Parts) (given : T → Option (List ℕ)) (answer_of : T → Result SessionEnd SessionFault)
+        (result : Result T F)
+        → IfOk result (λ done. OfTaken (taken done) (λ text. ThreadsTellOver wakeable passes limit (P done) text first
+        last (Some []) (given done) (answer_of done)))
+        → IfOk result (λ done. OfTaken (taken done) (λ text. ThreadsGiveOver wakeable limit (Q done) text (Some [])
         (given done) (answer_of done)))
     started_told P Q to taken given answer_of (Ok done) tells =
-        λ rest ends. let text = concat (taken done) ++ rest in over_as P Q to _ text _ _ (none_passed P text (Some [])
-        (given done) (answer_of done) (tells rest ends))
+        λ rest ends. let text = concat (taken done) ++ rest in over_as (P done) (Q done) (to done) _ text _ _
+        (none_passed (P done) text (Some []) (given done) (answer_of done) (tells rest ends))
     started_told P Q to taken given answer_of (Err fault) tells = tt
 
 -- a handler that was lent to a session which did not start is as it was

@@ -57,8 +57,7 @@ parts_of parcels = parts_after [] parcels
 module _ (limit : Limits) where
   -- Reading may stop so at this text: at its end, or at a frame that can't be read. At a content part that was read to
   -- its end and is no message it may not: that one is handed on, and the session finds what it is. A reader that fails
-  -- and an allocation that fails may stop reading anywhere, and so may a session that takes no more, which stops it as
-  -- a reader that fails does.
+  -- and an allocation that fails may stop reading anywhere.
   abbrev pub StopsAt : List ℕ → ReadEnd → Type 0
   StopsAt text End = (rest : List ℕ)
       × (reading_within limit text ≡ record { outcome = Ok None; rest = rest })

@@ -1,10 +1,13 @@
 -- What is said of the bytes that were taken from a reader and given to a writer, of whatever reader and writer.
-use Rattle.std.specs.Prelude.{◌≡◌, ◌⊎◌, ℕ, true, List, [], ◌++◌, Option, Some}
+use Rattle.std.specs.Prelude.{◌≡◌, ◌⊎◌, ℕ, true, List, [], ◌++◌, length, Option, Some}
 use Rattle.std.specs.List.{concat}
+use Rattle.lsp_message.specs.Failures.{FailsFor}
 use Rattle.lsp_message.specs.Told.{Parts, shows_end, Gives, Takes}
 use Rattle.lsp_message.specs.declared.frame.WriteFault.{WriteFault}
 use Rattle.lsp_message.specs.declared.frame.WriteFault.TheVariants.{Output}
 use Rattle.lsp_message.specs.declared.frame.byte_trace.ByteTrace.{ByteTrace}
+use Rattle.lsp_session.specs.SessionFailures.{fault_of}
+use Rattle.lsp_session.specs.declared.loops.ReadEnd.{ReadEnd}
 
 -- This holds of each text that begins with the bytes that were taken. If the reader showed its end, there is just one.
 abbrev pub OfTaken : Parts → (List ℕ → Type 0) → Type 0
@@ -35,3 +38,7 @@ IsFlushed given = (given ≡ []) ⊎ (shows_end given ≡ true)
 abbrev pub IsFlushedUnless : Option WriteFault → Parts → Type 0
 IsFlushedUnless (Some (Output kind)) given = Unit {0}
 IsFlushedUnless fault given = IsFlushed given
+
+-- All failures of the reader are in the trace, and they fit how the reading ended.
+abbrev pub ReadingFails : ReadEnd → ByteTrace → Type 0
+ReadingFails end taken = FailsFor (fault_of (Some end)) (length (concat taken.parts)) taken.failed

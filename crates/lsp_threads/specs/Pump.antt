@@ -1,6 +1,6 @@
 -- What is written of the messages of a text.
 use Rattle.std.specs.Io.KnownBytes.{Keeps}
-use Rattle.std.specs.Prelude.{◌⊎◌, ℕ, List, Option, Some, None, Result, Ok, Err, codes}
+use Rattle.std.specs.Prelude.{◌≡◌, ◌⊎◌, ℕ, List, [], Option, Some, None, Result, Ok, Err, codes}
 use Rattle.lsp_message.specs.Faults.{read_fault_text, write_fault_text}
 use Rattle.lsp_message.specs.Messages.{exited, ended, failed}
 use Rattle.lsp_message.specs.Message.{Message}
@@ -9,11 +9,13 @@ use Rattle.lsp_message.specs.Written.{GetsFrames, GetsFramesAndPart}
 use Rattle.lsp_message.specs.declared.frame.ReadFault.TheVariants.{Input, Memory}
 use Rattle.lsp_message.specs.declared.frame.WriteFault.TheVariants.{Output, Memory as NoMemory}
 use Rattle.lsp_message.specs.declared.frame.WriteFault.{WriteFault}
+use Rattle.lsp_message.specs.declared.frame.byte_trace.ByteTrace.{ByteTrace}
 use Rattle.lsp_message.specs.declared.frame.limits.Limits.{Limits}
 use Rattle.lsp_session.specs.ReadLoop.{Extent, to_end, in_part, up_to, ReadsOver}
+use Rattle.lsp_session.specs.SessionFailures.{write_failures}
 use Rattle.lsp_session.specs.declared.loops.ReadEnd.{ReadEnd}
 use Rattle.lsp_session.specs.declared.loops.ReadEnd.TheVariants.{Exit, End, Fault, Closed, Memory as Full}
-use Rattle.lsp_threads.specs.Passing.{IsFlushed}
+use Rattle.lsp_threads.specs.Passing.{IsFlushed, ReadingFails}
 use Rattle.lsp_threads.specs.declared.pumping.PumpFault.{PumpFault}
 use Rattle.lsp_threads.specs.declared.pumping.PumpFault.TheVariants.{Read, Write, Start}
 use Rattle.lsp_threads.specs.declared.workers.StartFault.{StartFault}
@@ -46,6 +48,20 @@ module _ (limit : Limits) (text : List ℕ) (old new : Option (List ℕ)) where
 abbrev pub PumpFlushes : Result (Unit {0}) PumpFault → Parts → Type 0
 PumpFlushes (Err (Write (Output kind))) given = Unit {0}
 PumpFlushes result given = IsFlushed given
+
+-- A pump that reports that its reader failed reports the last failure of the trace, by its kind. It may also give up,
+-- with the kind `Other`, after 2^64 - 1 bytes, where each interruption counts as a byte. If a pump reports no fault,
+-- its reader was only interrupted.
+abbrev pub PumpReportsReader : Result (Unit {0}) PumpFault → ByteTrace → Type 0
+PumpReportsReader (Ok done) taken = ReadingFails End taken
+PumpReportsReader (Err (Read fault)) taken = ReadingFails (Fault fault) taken
+PumpReportsReader (Err (Write fault)) taken = Unit {0}
+PumpReportsReader (Err (Start fault)) taken = taken.failed ≡ []
+
+-- A pump reports that its writer failed, by its kind, exactly if it did. It failed once.
+abbrev pub PumpReportsWriter : Result (Unit {0}) PumpFault → ByteTrace → Type 0
+PumpReportsWriter (Err (Write fault)) given = given.failed ≡ write_failures (Some fault)
+PumpReportsWriter result given = given.failed ≡ []
 
 -- A fault of writing comes before one of reading. A frame that could not be made ends the reading. For private clauses:
 -- reading never ends at a closed outbox.

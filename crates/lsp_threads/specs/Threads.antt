@@ -1,20 +1,26 @@
 -- A session whose reader and writer run in threads of their own: bytes in to bytes out (LSP 3.17, "Base Protocol" and
 -- "Server lifecycle").
-use Rattle.std.specs.Prelude.{◌≡◌, ◌⊎◌, Bool, true, false, ℕ, List, ◌∷◌, ◌++◌, Option, Some, None, Result, Err}
+use Rattle.std.specs.Prelude.{◌≡◌, ◌⊎◌, Bool, true, false, ℕ, ◌-◌, ◌^◌, ◌≤◌, List, [], ◌∷◌, ◌++◌, length, Option}
+use Rattle.std.specs.Prelude.{Some, None, Result, Err}
+use Rattle.std.specs.declared.io.ErrorKind.TheVariants.{Other}
 use Rattle.lsp_message.specs.Frame.{Begins}
 use Rattle.lsp_message.specs.Message.{Message}
 use Rattle.lsp_message.specs.Told.{Parts}
 use Rattle.lsp_message.specs.Written.{GetsFrames, GetsFramesAndPart, IsOutput}
 use Rattle.lsp_message.specs.declared.frame.ReadFault.{ReadFault}
+use Rattle.lsp_message.specs.declared.frame.ReadFault.TheVariants.{Input}
+use Rattle.lsp_message.specs.declared.frame.byte_trace.ByteTrace.{ByteTrace}
 use Rattle.lsp_message.specs.declared.frame.limits.Limits.{Limits}
 use Rattle.lsp_session.specs.PassingBytes.{HearsLast, PassesOver}
 use Rattle.lsp_session.specs.Session.{Exchange, sends_of, SessionAnswer, SessionPart, Stop}
 use Rattle.lsp_session.specs.SessionBytes.{Ends, SessionOver}
+use Rattle.lsp_session.specs.SessionFailures.{write_failures}
 use Rattle.lsp_session.specs.declared.loops.ReadEnd.{ReadEnd}
+use Rattle.lsp_session.specs.declared.loops.ReadEnd.TheVariants.{Fault}
 use Rattle.lsp_session.specs.declared.loops.handler.SessionEnd.{SessionEnd}
 use Rattle.lsp_session.specs.declared.loops.stream_session.SessionFault.{SessionFault}
-use Rattle.lsp_session.specs.declared.loops.stream_session.SessionFault.TheVariants.{Write, Memory}
-use Rattle.lsp_threads.specs.Passing.{IsFlushed}
+use Rattle.lsp_session.specs.declared.loops.stream_session.SessionFault.TheVariants.{Read, Write, Memory}
+use Rattle.lsp_threads.specs.Passing.{IsFlushed, ReadingFails}
 
 -- the writer got frames of the first of these messages, and a beginning of a frame of the next
 abbrev pub BreaksOffWithin : List Message → Option (List ℕ) → Option (List ℕ) → Type 0
@@ -52,6 +58,19 @@ WroteInThreads old new result stop exchanges = GetsFrames (sends_of exchanges) o
 abbrev pub FlushesInThreads : Result SessionEnd SessionFault → Parts → Type 0
 FlushesInThreads (Err (Write fault)) given = Unit {0}
 FlushesInThreads result given = IsFlushed given
+
+-- A session that reports that its reader failed reports the last failure of the trace, by its kind. It may also give
+-- up, with the kind `Other`: after 2^64 - 1 bytes, where each interruption counts as a byte, or after 2^64 - 1 messages
+-- and wakes.
+abbrev pub ReportsReader : Result SessionEnd SessionFault → ByteTrace → SessionPart
+ReportsReader (Err (Read (Input kind))) taken exchanges stop answer =
+    ReadingFails (Fault (Input kind)) taken ⊎ ((kind ≡ Other) × (2 ^ 64 - 1 ≤ length exchanges))
+ReportsReader result taken exchanges stop answer = Unit {0}
+
+-- A session reports that its writer failed, by its kind, exactly if it did. It failed once.
+abbrev pub ReportsWriter : Result SessionEnd SessionFault → ByteTrace → Type 0
+ReportsWriter (Err (Write fault)) given = given.failed ≡ write_failures (Some fault)
+ReportsWriter result given = given.failed ≡ []
 
 -- bytes in to bytes out, of a session that passes over nothing, and that others can wake or not
 abbrev pub ThreadsGiveOver : Bool → Limits → SessionPart → List ℕ → Option (List ℕ) → Option (List ℕ)

@@ -164,13 +164,15 @@ impl<R: Wait + Drop> ContentBatch<R> {
         }
     }
 
-    /// Sends the content parts that wait, and then waits until the session goes on after the last of them. Returns
-    /// false if the session does not go on.
-    pub fn waits_to_go_on(&mut self) -> bool
+    /// Sends the content parts that wait, and then waits until the session goes on after the last of them. If the
+    /// session does not go on, the outbox is closed.
+    pub fn wait_to_go_on(&mut self)
         ensures { Stays self.old self.old.contents self.new }
     {
         self.hand_over(true);
-        self.backlog.may_go_on(&self.rt)
+        if !self.backlog.may_go_on(&self.rt) {
+            self.closed = true;
+        }
     }
 
     /// Sends the content parts that wait and then End, unless the receiver's end is gone, and returns the relay's end.

@@ -2,6 +2,7 @@
 ghost use Rattle.std.specs.Bool.{MatchBool};
 ghost use Rattle.std.specs.Prelude.{◌≡◌, ◌∷◌, ◌++◌, [], None, Ok, IfNone, IfSome, OnErr, OnOk, OnSome, string_bytes};
 ghost use Rattle.lsp_message.specs.View.{message_view};
+ghost use Rattle.lsp_session.specs.SessionFailures.{write_failures};
 ghost use Rattle.lsp_relay.specs.Relay.{IsOpen};
 ghost use Rattle.lsp_threads.specs.Framing.{parcel_bytes, AreEnded, FramingSends, Gathers, WritesBytes, WritesParcels};
 ghost use Rattle.lsp_threads.specs.Passing.{GivesMore, IsFlushed, IsFlushedUnless, noted};
@@ -138,7 +139,8 @@ pub fn deliver_text<R: Wait>(rt: &R, tx: &mut RelayTx<FrameText>, text: String, 
 
 /// Writes each text up to End. Texts that wait together are one write, and it waits for a text only when it has written
 /// all that it took. After a fault it writes nothing more, and drops the texts. It records the bytes that the writer
-/// takes, and where each write begins. It reports which bytes, written or dropped, no longer wait.
+/// takes, how the writer failed, and where each write begins. It reports which bytes, written or dropped, no longer
+/// wait.
 pub fn write_texts<R: Wait, W: Write>(
     rt: &R,
     alloc: Global,
@@ -153,6 +155,7 @@ pub fn write_texts<R: Wait, W: Write>(
     ensures written { WritesParcels result.0.taken result.1 (noted given.old) (noted given.new) }
     ensures given { GivesMore given.old.parts given.new.parts (W.contents writer.old) (W.contents writer.new) }
     ensures flushed { IsFlushed given.old.parts → IsFlushedUnless result.1 given.new.parts }
+    ensures failed { given.old.failed ≡ [] → given.new.failed ≡ write_failures result.1 }
     ensures order { given.old.parts ≡ [] → order.old ≡ []
         → AllWrites (EndsAtMark (marks_of result.0.taken)) order.new given.new.parts }
 {
@@ -218,6 +221,7 @@ fn gather<W: Write>(
         (string_bytes result.0) result.1 (noted given.old) (noted given.new) }
     ensures given { GivesMore given.old.parts given.new.parts (W.contents writer.old) (W.contents writer.new) }
     ensures flushed { IsFlushedUnless before given.old.parts → IsFlushedUnless result.1 given.new.parts }
+    ensures failed { given.old.failed ≡ write_failures before → given.new.failed ≡ write_failures result.1 }
     ensures order { NotesWrite before (string_bytes pending) taken.now.parts given.old.parts given.new.parts
         order.old order.new }
 {
@@ -259,6 +263,7 @@ fn write_after<W: Write>(
     ensures silent { OnSome before (writer.new ≡ writer.old) }
     ensures given { GivesMore given.old.parts given.new.parts (W.contents writer.old) (W.contents writer.new) }
     ensures flushed { IsFlushedUnless before given.old.parts → IsFlushedUnless result given.new.parts }
+    ensures failed { given.old.failed ≡ write_failures before → given.new.failed ≡ write_failures result }
     ensures order { NotesWrite before text.now taken.now.parts given.old.parts given.new.parts order.old order.new }
 {
     if before.is_some() || text.is_empty() {

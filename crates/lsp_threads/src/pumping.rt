@@ -2,7 +2,7 @@
 ghost use Rattle.std.specs.Prelude.{◌≡◌, [], IfSome, Option, Some};
 ghost use Rattle.lsp_message.specs.Frame.{no_limit, of_content};
 ghost use Rattle.lsp_threads.specs.Passing.{GivenTo, OfTaken, TakenFrom, noted};
-ghost use Rattle.lsp_threads.specs.Pump.{PumpFlushes, Pumps, pump_answer};
+ghost use Rattle.lsp_threads.specs.Pump.{PumpFlushes, PumpReportsReader, PumpReportsWriter, Pumps, pump_answer};
 
 use crate::backlog::bounded_backlog;
 use crate::frame_batch::write_texts;
@@ -139,7 +139,8 @@ pub struct PumpOutcome {
 /// Does what `pump_with` does, and says more about it for every reader and writer, including standard input and a socket.
 /// The clause `told` is that of `pump`, for each text that begins with the bytes that were taken, and for a writer that
 /// began empty. The clauses `taken` and `given` say that these are the bytes that were read and written, if they are
-/// known. No clause says in which order bytes were taken and given.
+/// known. `reader` and `writer` say that read fault 1 and write fault 1 are reported only if the reader or the writer
+/// failed, with the kind of its error. No clause says in which order bytes were taken and given.
 pub fn pump_traced<T, R, W>(
     rt: &T,
     builder: Builder,
@@ -157,6 +158,8 @@ where
     ensures taken { TakenFrom (R.remaining reader) result.taken.parts }
     ensures given { GivenTo (W.contents writer.old) result.given.parts (W.contents writer.new) }
     ensures flushed { PumpFlushes result.answer result.given.parts }
+    ensures reader { PumpReportsReader result.answer result.taken }
+    ensures writer { PumpReportsWriter result.answer result.given }
 {
     let Ok((tx, rx)) = relay::<FrameText, AnyPlan>(alloc, PARCEL_ROOM) else {
         return not_started(StartFault::Memory);
@@ -186,6 +189,7 @@ where
 fn not_started(fault: StartFault) -> PumpOutcome
     ensures answer { result.answer ≡ Err (PumpFault.Start fault) }
     ensures nothing { (result.taken.parts ≡ []) × (result.given.parts ≡ []) }
+    ensures no_failure { (result.taken.failed ≡ []) × (result.given.failed ≡ []) }
 {
     PumpOutcome {
         taken: ByteTrace::new(),

@@ -4,9 +4,11 @@ ghost use Rattle.std.specs.Prelude.{◌≡◌, [], false, IfOk, IfSome, OnErr, S
 ghost use Rattle.lsp_message.specs.Frame.{no_limit, of_content};
 ghost use Rattle.lsp_session.specs.HandlerSession.{of_handler};
 ghost use Rattle.lsp_session.specs.Session.{SessionOut};
+ghost use Rattle.lsp_session.specs.SessionLaws.{Both};
 ghost use Rattle.lsp_threads.specs.Order.{TellsInOrder, ThreadsGiveInOrder};
 ghost use Rattle.lsp_threads.specs.Passing.{GivenTo, OfTaken, TakenFrom, noted};
-ghost use Rattle.lsp_threads.specs.Threads.{FlushesInThreads, ThreadsGive, ThreadsTell, ThreadsTellOver};
+ghost use Rattle.lsp_threads.specs.Threads.{FlushesInThreads, ReportsReader, ReportsWriter, ThreadsGive, ThreadsTell};
+ghost use Rattle.lsp_threads.specs.Threads.{ThreadsTellOver};
 
 use crate::content_batch::{Contents, ContentsPlan, ContentsRx, ContentsTx};
 use crate::serving::{serve_between, start_both};
@@ -113,6 +115,8 @@ impl ThreadOptions {
 ///   showed its end, there is only one such text. `passed` says that these are the bytes that were read and written, if
 ///   they are known. `order` adds that no frame is given before the message that it answers was taken, and `flushed`
 ///   that all that was given was flushed, unless a write or a flush failed.
+/// - `reader` and `writer` say that read fault 1 and write fault 1 are reported only if the reader or the writer failed,
+///   with the kind of its error. After 2^64 - 1 bytes or messages the session may give up, with the kind `Other`.
 pub fn run_threads<T, R, W, H>(
     rt: &T,
     alloc: Global,
@@ -138,6 +142,11 @@ where
     ensures passed { IfOk result (λ done. TakenFrom (R.remaining reader) done.taken.parts
         × GivenTo (W.contents writer) done.given.parts (W.contents done.writer)) }
     ensures flushed { IfOk result (λ done. FlushesInThreads done.answer done.given.parts) }
+    ensures reader { IfOk result (λ done. OfTaken done.taken.parts (λ text.
+        ThreadsGive no_limit
+        (Both (SessionOut (of_handler H.answer_post H.note_post (view capabilities)) handler.old handler.new)
+        (ReportsReader done.answer done.taken)) text (Some []) (noted done.given) done.answer)) }
+    ensures writer { IfOk result (λ done. ReportsWriter done.answer done.given) }
     ensures session { IfSome (R.remaining reader) (λ text. IfOk result (λ done.
         ThreadsGive no_limit
         (SessionOut (of_handler H.answer_post H.note_post (view capabilities)) handler.old handler.new)
@@ -175,6 +184,11 @@ where
     ensures passed { IfOk result (λ done. TakenFrom (R.remaining reader) done.taken.parts
         × GivenTo (W.contents writer) done.given.parts (W.contents done.writer)) }
     ensures flushed { IfOk result (λ done. FlushesInThreads done.answer done.given.parts) }
+    ensures reader { IfOk result (λ done. OfTaken done.taken.parts (λ text.
+        ThreadsGive (of_content limit)
+        (Both (SessionOut (of_handler H.answer_post H.note_post (view capabilities)) handler.old handler.new)
+        (ReportsReader done.answer done.taken)) text (Some []) (noted done.given) done.answer)) }
+    ensures writer { IfOk result (λ done. ReportsWriter done.answer done.given) }
     ensures session { IfSome (R.remaining reader) (λ text. IfOk result (λ done.
         ThreadsGive (of_content limit)
         (SessionOut (of_handler H.answer_post H.note_post (view capabilities)) handler.old handler.new)
@@ -241,6 +255,11 @@ where
     ensures passed { IfOk result (λ done. TakenFrom (R.remaining reader) done.taken.parts
         × GivenTo (W.contents writer) done.given.parts (W.contents done.writer)) }
     ensures flushed { IfOk result (λ done. FlushesInThreads done.answer done.given.parts) }
+    ensures reader { IfOk result (λ done. OfTaken done.taken.parts (λ text.
+        ThreadsTell L.passes options.limits
+        (Both (A.session application.old application.new) (ReportsReader done.answer done.taken)) text
+        policy.old policy.new (Some []) (noted done.given) done.answer)) }
+    ensures writer { IfOk result (λ done. ReportsWriter done.answer done.given) }
     ensures session { IfSome (R.remaining reader) (λ text. IfOk result (λ done.
         ThreadsTell L.passes options.limits (A.session application.old application.new) text
         policy.old policy.new (W.contents writer) (W.contents done.writer) done.answer)) }
@@ -298,6 +317,11 @@ where
     ensures passed { IfOk result (λ done. TakenFrom (R.remaining reader) done.taken.parts
         × GivenTo (W.contents writer) done.given.parts (W.contents done.writer)) }
     ensures flushed { IfOk result (λ done. FlushesInThreads done.answer done.given.parts) }
+    ensures reader { IfOk result (λ done. OfTaken done.taken.parts (λ text.
+        ThreadsTellOver ends.0.wakeable L.passes options.limits
+        (Both (A.session application.old application.new) (ReportsReader done.answer done.taken)) text
+        policy.old policy.new (Some []) (noted done.given) done.answer)) }
+    ensures writer { IfOk result (λ done. ReportsWriter done.answer done.given) }
     ensures session { IfSome (R.remaining reader) (λ text. IfOk result (λ done.
         ThreadsTellOver ends.0.wakeable L.passes options.limits
         (A.session application.old application.new) text

@@ -1,9 +1,12 @@
 //! The session between the two threads, and how they are started.
-ghost use Rattle.std.specs.Prelude.{◌≡◌, [], IfOk, Some};
+ghost use Rattle.std.specs.Prelude.{◌≡◌, [], IfOk, Some, true};
+ghost use Rattle.lsp_relay.specs.Relay.{has_end};
+ghost use Rattle.lsp_session.specs.SessionLaws.{Both};
 ghost use Rattle.lsp_threads.specs.Contents.{LeavesReading, source_of};
 ghost use Rattle.lsp_threads.specs.Order.{TellsInOrder};
-ghost use Rattle.lsp_threads.specs.Passing.{GivenTo, OfTaken, TakenFrom, noted};
-ghost use Rattle.lsp_threads.specs.Threads.{FlushesInThreads, ThreadsTellOver, session_end as session_end_spec};
+ghost use Rattle.lsp_threads.specs.Passing.{GivenTo, OfTaken, ReadingFails, TakenFrom};
+ghost use Rattle.lsp_threads.specs.Threads.{FlushesInThreads, ReportsReader, ReportsWriter};
+ghost use Rattle.lsp_threads.specs.Threads.{session_end as session_end_spec};
 
 use crate::backlog::{Backlog, Takes, bounded_backlog};
 use crate::content_batch::{Contents, ContentsPlan, ContentsRx, ContentsTx};
@@ -191,19 +194,16 @@ where
     requires writing { (workers.replies.sent ≡ [])
         × (workers.writing.promise.rx.value.relay ≡ workers.replies.relay) }
     ensures told { OfTaken result.taken.parts (λ text.
-        ThreadsTellOver workers.reading.promise.tx.value.wakeable L.passes
-        workers.reading.promise.limits (A.session application.old application.new) text
-        policy.old policy.new (Some []) (noted result.given) result.answer) }
-    ensures order { OfTaken result.taken.parts (λ text.
         TellsInOrder workers.reading.promise.tx.value.wakeable L.passes
         workers.reading.promise.limits (R.remaining workers.reading.promise.reader.value)
-        policy.old (A.session application.old application.new) text
-        policy.new result.order result.given.parts result.answer) }
+        policy.old (Both (A.session application.old application.new) (ReportsReader result.answer result.taken))
+        text policy.new result.order result.given.parts result.answer) }
     ensures taken { TakenFrom (R.remaining workers.reading.promise.reader.value)
         result.taken.parts }
     ensures given { GivenTo (W.contents workers.writing.promise.writer.value.inner)
         result.given.parts (W.contents result.writer) }
     ensures flushed { FlushesInThreads result.answer result.given.parts }
+    ensures writer { ReportsWriter result.answer result.given }
 {
     let Workers {
         rx,
@@ -256,8 +256,9 @@ where
     requires known { (parts.relay.0 ≡ reading.promise.tx.value.relay)
         × (parts.relay.1 ≡ Some (source_of (R.remaining reading.promise.reader.value) reading.promise.limits))
         × (parts.relay.2 ≡ reading.promise.tx.value.wakeable) }
-    ensures { LeavesReading parts reading.promise.limits reading.promise.tx.value
+    ensures leaves { LeavesReading parts reading.promise.limits reading.promise.tx.value
         (R.remaining reading.promise.reader.value) result.1.parts result.0 }
+    ensures failed { has_end parts.taken ≡ true → ReadingFails result.0 result.1 }
 {
     let drained = parts.is_drained();
     let (rx, so_far) = parts.leave();

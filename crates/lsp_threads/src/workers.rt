@@ -2,7 +2,8 @@
 ghost use Rattle.std.specs.List.{concat};
 ghost use Rattle.std.specs.Prelude.{◌≡◌, [], IfOk, Some};
 ghost use Rattle.lsp_threads.specs.Framing.{WritesParcels};
-ghost use Rattle.lsp_threads.specs.Passing.{GivenTo, IsFlushedUnless};
+ghost use Rattle.lsp_session.specs.SessionFailures.{write_failures};
+ghost use Rattle.lsp_threads.specs.Passing.{GivenTo, IsFlushedUnless, ReadingFails};
 
 use crate::backlog::{Backlog, Takes};
 use crate::frame_batch::write_texts;
@@ -68,9 +69,9 @@ pub trait ReadsInto: Drop {
     /// many bytes.
     ghost may_read: { Option (List ℕ) → most → Self → Type 0 };
 
-    /// Sends the messages of a reader, within `limits`, and then End, and records the bytes that it took. It waits
-    /// while the other end has too many bytes that it did not take or write.
-    fn read_into<R: Wait + Drop, S: BufRead + Drop>(
+    /// Sends the messages of a reader, within `limits`, and then End. It records the bytes that it took, and how the
+    /// reader failed. It waits while the other end has too many bytes that it did not take or write.
+    fn read_into<R: Wait + Copy + Drop, S: BufRead + Drop>(
         self,
         rt: R,
         alloc: Global,
@@ -80,7 +81,8 @@ pub trait ReadsInto: Drop {
     ) -> (Self, ReadEnd, ByteTrace)
         requires { may_read (S.remaining reader) limits self }
         ensures relay { same_end self result.0 }
-        ensures told { tells limits (S.remaining reader) self result.1 result.2.parts result.0 };
+        ensures told { tells limits (S.remaining reader) self result.1 result.2.parts result.0 }
+        ensures failed { ReadingFails result.1 result.2 };
 }
 
 /// What a writing thread takes from a relay. The thread is started for any such type, for the same reason.
@@ -113,6 +115,7 @@ pub trait WritesFrom: Drop {
         ensures written { writes result.0.taken result.2 (Some []) (Some (concat result.3.parts)) }
         ensures given { GivenTo (W.contents writer) result.3.parts (W.contents result.1) }
         ensures flushed { IsFlushedUnless result.2 result.3.parts }
+        ensures failed { result.3.failed ≡ write_failures result.2 }
         ensures order { orders result.0.taken result.4 result.3.parts };
 }
 
@@ -125,8 +128,10 @@ pub struct Reader<S, E> {
 }
 
 impl<S: BufRead, E: ReadsInto> Promise<(E, ReadEnd, ByteTrace)> for Reader<S, E> {
+    ghost use Rattle.lsp_threads.specs.Passing.{ReadingFails};
+
     ghost kept_by = { λ p r. E.same_end p.tx.value r.0
-        × E.tells p.limits (S.remaining p.reader.value) p.tx.value r.1 r.2.parts r.0 };
+        × E.tells p.limits (S.remaining p.reader.value) p.tx.value r.1 r.2.parts r.0 × ReadingFails r.1 r.2 };
 }
 
 /// What the writing thread returns: the receiver's end of the relay that it was given, from which everything was taken,
@@ -141,12 +146,14 @@ impl<W: Write, M: WritesFrom> Promise<(RelayRx<M>, W, Option<WriteFault>, ByteTr
     for Writer<W, M> {
     ghost use Rattle.std.specs.List.{concat};
     ghost use Rattle.std.specs.Prelude.{◌≡◌, [], Some};
+    ghost use Rattle.lsp_session.specs.SessionFailures.{write_failures};
     ghost use Rattle.lsp_threads.specs.Passing.{GivenTo, IsFlushedUnless};
 
     ghost kept_by = { λ p r. (r.0.relay ≡ p.rx.value.relay)
         × M.writes r.0.taken r.2 (Some []) (Some (concat r.3.parts))
         × GivenTo (W.contents p.writer.value) r.3.parts (W.contents r.1)
-        × IsFlushedUnless r.2 r.3.parts × M.orders r.0.taken r.4 r.3.parts };
+        × IsFlushedUnless r.2 r.3.parts × (r.3.failed ≡ write_failures r.2)
+        × M.orders r.0.taken r.4 r.3.parts };
 }
 
 /// Starts the reading thread.
@@ -244,6 +251,7 @@ impl WritesFrom for FrameText {
         ensures written { WritesParcels result.0.taken result.2 (Some []) (Some (concat result.3.parts)) }
         ensures given { GivenTo (W.contents writer) result.3.parts (W.contents result.1) }
         ensures flushed { IsFlushedUnless result.2 result.3.parts }
+        ensures failed { result.3.failed ≡ write_failures result.2 }
         ensures order { AllWrites (EndsAtMark (marks_of result.0.taken)) result.4 result.3.parts }
     {
         let mut writer = writer;

@@ -23,6 +23,7 @@ loop-preserved-in-Some-Message g c =
           (noted c.args.given.now) _ _ c.loop.fault _ c.loop.invariant.unwritten c.gather-left.ensures.gathered);
       given = gives_then _ _ _ _ _ _ c.loop.invariant.given c.gather-left.ensures.given;
       flushed = λ first. c.gather-left.ensures.flushed (c.loop.invariant.flushed first);
+      failed = λ first. c.gather-left.ensures.failed (c.loop.invariant.failed first);
       order = λ none fresh. writes-as (EndsAtMark (marks_of c.loop.rx.taken)) (EndsAtMark (marks_of
           c.next_parcel.new.rx.taken)) (ends_later _ _ (text_keeps c.loop.rx.taken _ text taken)) _ _
           (wrote_on c.loop.rx.taken (string_bytes c.loop.pending) c.loop.last.parts c.loop.fault c.loop.order _
@@ -49,6 +50,7 @@ loop-preserved g c =
           fault.ensures.some));
       given = gives_then _ _ _ _ _ _ c.loop.invariant.given fault.ensures.given;
       flushed = λ first. fault.ensures.flushed (c.loop.invariant.flushed first);
+      failed = λ first. fault.ensures.failed (c.loop.invariant.failed first);
       order = λ none fresh. rw taken (wrote_on c.loop.rx.taken (string_bytes c.loop.pending) c.loop.last.parts
           c.loop.fault c.loop.order _ c.args.given.now c.loop.given fault.new.given none c.loop.invariant.unwritten
           c.loop.invariant.last (c.loop.invariant.flushed (inl none)) (c.loop.invariant.order none fresh)
@@ -72,6 +74,9 @@ returns-in-Some-End-clause-given g c = gives_then _ _ _ _ _ _ c.loop.invariant.g
 
 pub returns-in-Some-End-clause-flushed : goal.returns-in-Some-End-clause-flushed
 returns-in-Some-End-clause-flushed g c = λ first. c.write_after.ensures.flushed (c.loop.invariant.flushed first)
+
+pub returns-in-Some-End-clause-failed : goal.returns-in-Some-End-clause-failed
+returns-in-Some-End-clause-failed g c = λ first. c.write_after.ensures.failed (c.loop.invariant.failed first)
 
 pub returns-in-Some-End-clause-order : goal.returns-in-Some-End-clause-order
 returns-in-Some-End-clause-order g c = λ none fresh.

@@ -1,5 +1,6 @@
 use Rattle.std.specs.Prelude.{◌≡◌, [], string_bytes}
 use Rattle.lsp_relay.specs.Relay.{IsOpen}
+use Rattle.lsp_session.specs.SessionFailures.{write_failures}
 use Rattle.lsp_threads.proofs.Frames.{Unwritten}
 use Rattle.lsp_threads.specs.Framing.{parcel_bytes}
 use Rattle.lsp_threads.specs.Passing.{GivesMore, IsFlushed, IsFlushedUnless, noted}
@@ -15,6 +16,7 @@ invariant-loop g l = record {
   unwritten : Unwritten (parcel_bytes l.rx.taken) (string_bytes l.pending) l.fault (noted l.fn.given) (noted l.given);
   given : GivesMore l.fn.given.parts l.given.parts (g.W.Write.contents l.fn.writer) (g.W.Write.contents l.writer);
   flushed : IsFlushed l.fn.given.parts → IsFlushedUnless l.fault l.given.parts;
+  failed : l.fn.given.failed ≡ [] → l.given.failed ≡ write_failures l.fault;
   order : l.fn.given.parts ≡ [] → l.fn.order ≡ [] → AllWrites (EndsAtMark (marks_of l.rx.taken)) l.order l.given.parts;
   last : HeldMark (string_bytes l.pending) l.last.parts (parcel_bytes l.rx.taken) (marks_of l.rx.taken);
 }

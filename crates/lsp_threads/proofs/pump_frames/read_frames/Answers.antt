@@ -1,9 +1,10 @@
-use Rattle.std.proofs.Common.{◌≡◌, false, true, sym, ap, ◌∙◌}
+use Rattle.std.proofs.Common.{◌≡◌, false, true, sym, ap, ◌∙◌, Some, None}
 use Rattle.lsp_message.specs.Messages.{is_exit}
 use Rattle.lsp_message.specs.View.{message_view}
 use Rattle.lsp_threads.specs.Framing.{Framing}
+use Rattle.lsp_threads.proofs.Failing.{reading_on}
 use Rattle.lsp_threads.proofs.Frames.{told_frames_end, told_frames_exit, told_frames_fault, told_frames_full}
-use Rattle.lsp_threads.proofs.Frames.{told_frames_more, told_frames_on}
+use Rattle.lsp_threads.proofs.Frames.{told_frames_more}
 use Rattle.lsp_threads.proofs.Taken.{taken_more, takes_kept, takes_more}
 use Rattle.lsp_threads.proofs.pump_frames.read_frames.Goals as goal
 
@@ -41,14 +42,10 @@ loop-preserved g c =
       handed = rw c.go_on.ensures more;
       taken = takes_kept _ _ _ _ (takes_more _ _ _ _ _ c.loop.invariant.taken c.read_traced.ensures.told)
           c.shows_frame.ensures;
+      failed = reading_on None c.loop.taken c.read_traced.new.taken c.loop.invariant.failed (rw c.in-Ok-Some.is at
+          c.read_traced.ensures.failed);
       relay = ap (λ (f : Framing). f.relay) c.go_on.ensures ∙ c.in-Ok.ensures.ok.0 ∙ c.loop.invariant.relay;
     }
-
-pub returns-clause-handed : goal.returns-clause-handed
-returns-clause-handed g c = told_frames_on c.args.limits c.loop.taken.parts _ c.loop.outbox c.loop.invariant.handed
-
-pub returns-clause-taken : goal.returns-clause-taken
-returns-clause-taken g c = (_, c.loop.invariant.taken)
 
 pub returns-in-Ok-None-clause-taken : goal.returns-in-Ok-None-clause-taken
 returns-in-Ok-None-clause-taken g c = taken_more _ _ _ _ _ c.loop.invariant.taken c.read_traced.ensures.told
@@ -61,3 +58,19 @@ returns-in-Err-added-clause-taken g c = taken_more _ _ _ _ _ c.loop.invariant.ta
 
 pub returns-then-is_last-clause-taken : goal.returns-then-is_last-clause-taken
 returns-then-is_last-clause-taken g c = taken_more _ _ _ _ _ c.loop.invariant.taken c.read_traced.ensures.told
+
+pub returns-in-Ok-None-clause-failed : goal.returns-in-Ok-None-clause-failed
+returns-in-Ok-None-clause-failed g c = reading_on None c.loop.taken c.read_traced.new.taken
+    c.loop.invariant.failed (rw c.in-Ok-None.is at c.read_traced.ensures.failed)
+
+pub returns-in-Err-clause-failed : goal.returns-in-Err-clause-failed
+returns-in-Err-clause-failed g c = reading_on (Some c.in-Err.fault) c.loop.taken c.read_traced.new.taken
+    c.loop.invariant.failed (rw c.in-Err.is at c.read_traced.ensures.failed)
+
+pub returns-in-Err-added-clause-failed : goal.returns-in-Err-added-clause-failed
+returns-in-Err-added-clause-failed g c = reading_on None c.loop.taken c.read_traced.new.taken
+    c.loop.invariant.failed (rw c.in-Ok-Some.is at c.read_traced.ensures.failed)
+
+pub returns-then-is_last-clause-failed : goal.returns-then-is_last-clause-failed
+returns-then-is_last-clause-failed g c = reading_on None c.loop.taken c.read_traced.new.taken
+    c.loop.invariant.failed (rw c.in-Ok-Some.is at c.read_traced.ensures.failed)

@@ -1,5 +1,6 @@
 use Rattle.std.specs.Prelude.{◌≡◌, ℕ, List, [], ◌++◌, Some}
 use Rattle.std.specs.List.{concat}
+use Rattle.lsp_message.specs.Failures.{AreInterrupted}
 use Rattle.lsp_message.specs.Told.{Takes}
 use Rattle.lsp_session.proofs.Handing.{Handed}
 use Rattle.lsp_threads.specs.Framing.{FramingSends}
@@ -12,5 +13,6 @@ invariant-loop g l = record {
       l.outbox;
   taken : Takes l.taken.parts [] l.taken.parts (g.S.Read.remaining l.fn.reader.inner) (g.S.Read.remaining
       l.reader.inner);
+  failed : AreInterrupted l.taken.failed;
   relay : l.outbox.relay ≡ l.fn.outbox.relay;
 }

@@ -1,6 +1,7 @@
 use Rattle.std.proofs.Common.{[], ◌++◌, inl, Some, subst}
 use Rattle.std.specs.List.{concat}
 use Rattle.lsp_threads.specs.Framing.{TellsFrames}
+use Rattle.lsp_threads.proofs.Failing.{none_failed, pump_reports_reader, pump_reports_writer}
 use Rattle.lsp_threads.proofs.Flushing.{nothing_flushed, pump_flushed}
 use Rattle.lsp_threads.proofs.Frames.{pumped_over}
 use Rattle.lsp_threads.proofs.Taken.{given_whole, nothing_taken}
@@ -60,3 +61,41 @@ returns-in-Err-clause-flushed g c =
 pub returns-in_default-bounded_backlog-clause-flushed : goal.returns-in_default-bounded_backlog-clause-flushed
 returns-in_default-bounded_backlog-clause-flushed g c =
     let none = c.not_started-in_default-bounded_backlog.ensures in nothing_flushed _ _ _ none.answer none.nothing.1
+
+pub returns-clause-reader : goal.returns-clause-reader
+returns-clause-reader g c = rw c.answer_of.ensures (pump_reports_reader c.join-tx.result.2 c.join-tx.result.1
+    c.write_texts-rx.result.1 c.join-tx.ensures.2)
+
+pub returns-clause-writer : goal.returns-clause-writer
+returns-clause-writer g c = rw c.answer_of.ensures (pump_reports_writer c.write_texts-rx.new.given c.join-tx.result.1
+    c.write_texts-rx.result.1 (c.write_texts-rx.ensures.failed c.new-given.ensures.failed))
+
+pub returns-in_default-clause-reader : goal.returns-in_default-clause-reader
+returns-in_default-clause-reader g c =
+    let none = c.not_started in
+    (none_failed none.result.answer _ none.result.taken none.result.given none.ensures.answer none.ensures.no_failure).0
+
+pub returns-in_default-clause-writer : goal.returns-in_default-clause-writer
+returns-in_default-clause-writer g c =
+    let none = c.not_started in
+    (none_failed none.result.answer _ none.result.taken none.result.given none.ensures.answer none.ensures.no_failure).1
+
+pub returns-in-Err-clause-reader : goal.returns-in-Err-clause-reader
+returns-in-Err-clause-reader g c =
+    let none = c.not_started-in-Err in
+    (none_failed none.result.answer _ none.result.taken none.result.given none.ensures.answer none.ensures.no_failure).0
+
+pub returns-in-Err-clause-writer : goal.returns-in-Err-clause-writer
+returns-in-Err-clause-writer g c =
+    let none = c.not_started-in-Err in
+    (none_failed none.result.answer _ none.result.taken none.result.given none.ensures.answer none.ensures.no_failure).1
+
+pub returns-in_default-bounded_backlog-clause-reader : goal.returns-in_default-bounded_backlog-clause-reader
+returns-in_default-bounded_backlog-clause-reader g c =
+    let none = c.not_started-in_default-bounded_backlog in
+    (none_failed none.result.answer _ none.result.taken none.result.given none.ensures.answer none.ensures.no_failure).0
+
+pub returns-in_default-bounded_backlog-clause-writer : goal.returns-in_default-bounded_backlog-clause-writer
+returns-in_default-bounded_backlog-clause-writer g c =
+    let none = c.not_started-in_default-bounded_backlog in
+    (none_failed none.result.answer _ none.result.taken none.result.given none.ensures.answer none.ensures.no_failure).1

@@ -6,7 +6,7 @@ use Rattle.lsp_session.specs.SessionFault.{session_answer}
 use Rattle.lsp_relay.specs.Relay.{has_end}
 use Rattle.lsp_session.proofs.Brought.{brought_by}
 use Rattle.lsp_session.proofs.Got.{got_by}
-use Rattle.lsp_session.proofs.Lending.{over_as}
+use Rattle.lsp_session.specs.SessionRun.{Runs}
 use Rattle.lsp_session.specs.Session.{Exchange, SessionAnswer, SessionPart, starting, Stop}
 use Rattle.lsp_threads.proofs.Frames.{same_parcels}
 use Rattle.lsp_threads.proofs.GivenInOrder.{given_in_order}
@@ -14,9 +14,10 @@ use Rattle.lsp_threads.specs.Contents.{ContentsGive, Lent, source_of, Taking}
 use Rattle.lsp_threads.specs.Order.{GivesInOrder, MarksAnswer}
 use Rattle.lsp_threads.specs.Replies.{Gathered, RepliesSend, reply_fault}
 use Rattle.lsp_threads.specs.ThreadEnds.{EndsInOrder, seen_of}
-use Rattle.lsp_threads.specs.Threads.{session_end}
+use Rattle.lsp_threads.specs.Threads.{ReportsReader, session_end}
 use Rattle.lsp_threads.specs.Writes.{KeepsMarks, marks_of}
 use Rattle.lsp_threads.proofs.ContentStream.{gives_relay}
+use Rattle.lsp_threads.proofs.Failing.{all_keep, session_reports_reader, session_reports_writer, stopped_early}
 use Rattle.lsp_threads.proofs.Flushing.{session_flushed}
 use Rattle.lsp_threads.proofs.Replies.{all_replied}
 use Rattle.lsp_threads.proofs.Sessions.{threads_tell}
@@ -52,7 +53,7 @@ settle_all-requires g c =
     ∙ ap (λ (b : Gathered). b.replies.relay) (c.new-ends.ensures.unsent ∙ c.new-outbox.ensures))
 
 pub returns-clause-taken : goal.returns-clause-taken
-returns-clause-taken g c = c.leave_reading-read.ensures.6
+returns-clause-taken g c = c.leave_reading-read.ensures.leaves.6
 
 pub returns-clause-given : goal.returns-clause-given
 returns-clause-given g c = c.join-replies_rx.ensures.2
@@ -62,8 +63,8 @@ returns-clause-flushed g c = rw (c.session_answer-answer.ensures, c.reply_fault-
     (session_flushed c.join-replies_rx.result.3.parts c.serve_ends-served.result.stop c.serve_ends-served.result.answer
     c.session_end.result c.join-replies_rx.result.2 c.finish-replies.result.1 c.join-replies_rx.ensures.3)
 
-pub returns-clause-order : goal.returns-clause-order
-returns-clause-order g c = λ rest ends.
+pub returns-clause-told : goal.returns-clause-told
+returns-clause-told g c = λ rest ends.
     let passes = g.L.BadContentPolicy.passes in
     let old = c.args.application.now in
     let new = c.serve_ends-served.new.application in
@@ -101,28 +102,59 @@ returns-clause-order g c = λ rest ends.
     woken (ends (source_of known limits) planned))
     c.join-replies_rx.result.0.taken c.finish-replies.result.0.sent
     (subst (λ (b : Gathered). KeepsMarks b.marks (marks_of c.finish-replies.result.0.sent)) sent
-    c.finish-replies.ensures.marks) all c.join-replies_rx.result.4 given c.join-replies_rx.ensures.4 in
+    c.finish-replies.ensures.marks) all c.join-replies_rx.result.4 given c.join-replies_rx.ensures.5 in
+    let taken = c.leave_reading-read.result.1 in
+    let reports : SessionPart = ReportsReader (session_answer served.stop served.answer (session_end
+    (seen_of c.serve_ends-served.new.ends).0.end (has_end (seen_of c.serve_ends-served.new.ends).0.taken)
+    c.leave_reading-read.result.0) (reply_fault c.join-replies_rx.result.2
+    c.serve_ends-served.new.ends.outbox.now.replies.failed)) taken in
+    let heard = brought_by (ContentsGive passes) starting run.runs.exchanges run.runs.stop _ _ _ run.runs.came in
+    let reported : reports run.runs.exchanges run.runs.stop served.answer =
+    session_reports_reader taken run.runs.exchanges run.runs.stop served.answer served.stop served.answer
+    (seen_of c.serve_ends-served.new.ends).0.end (has_end (seen_of c.serve_ends-served.new.ends).0.taken)
+    c.leave_reading-read.result.0 _
+    (all_keep passes heard.events _ _ heard.received (rw c.new-ends.ensures.unended tt))
+    (rw kept at left.failed)
+    (stopped_early passes _ _ run.runs.exchanges served.stop run.runs.stop heard run.runs.part.0.1.0
+    c.leave_reading-read.result.0) in
+    let session : SessionPart = Both (Both (g.A.Application.session old new) (StopsBy served.stop))
+    (EndsInOrder passes c.new-ends.result c.serve_ends-served.new.ends) in
+    let runs : Runs (ContentsGive passes) RepliesSend (Both session reports)
+    (seen_of c.new-ends.result, c.new-ends.result.outbox.now.replies) served.answer
+    (seen_of c.serve_ends-served.new.ends, c.serve_ends-served.new.ends.outbox.now.replies) = record {
+      exchanges = run.runs.exchanges;
+      stop = run.runs.stop;
+      came = run.runs.came;
+      went = run.runs.went;
+      part = (run.runs.part, reported);
+    } in
     rw (answer, told, sym c.new-ends.ensures.untold) (threads_tell passes c.args.workers.reading.promise.limits
-    (Both (Both (g.A.Application.session old new) (StopsBy served.stop))
-    (EndsInOrder passes c.new-ends.result c.serve_ends-served.new.ends))
-    (Both (g.A.Application.session old new) order) served.stop
-    (λ xs stop answer both. ((both.0.0, in_order xs stop answer both.1), both.0.1.0, both.0.1.1))
+    (Both session reports)
+    (Both (Both (g.A.Application.session old new) reports) order) served.stop
+    (λ xs stop answer both. (
+      ((both.0.0.0, both.1), in_order xs stop answer both.0.1),
+      both.0.0.1.0,
+      both.0.0.1.1,
+    ))
     _ _ (seen_of c.new-ends.result) (seen_of c.serve_ends-served.new.ends) c.new-ends.result.outbox.now.replies
-    c.serve_ends-served.new.ends.outbox.now.replies served.answer run.runs
+    c.serve_ends-served.new.ends.outbox.now.replies served.answer runs
     (ap (λ (t : Taking). t.taken) first ∙ c.requires.reading.0) (ap (λ (t : Taking). t.waiting) first)
     c.new-ends.ensures.unended
     (ap (λ (b : Gathered). b.replies.bytes) (c.new-ends.ensures.unsent ∙ c.new-outbox.ensures))
-    left.1 left.0 (rw kept at left.2) left.3 (rw kept at left.4) c.args.workers.reading.promise.tx.value
+    left.leaves.1 left.leaves.0 (rw kept at left.leaves.2) left.leaves.3 (rw kept at left.leaves.4)
+    c.args.workers.reading.promise.tx.value
     c.leave_reading-read.result.0
     c.join-replies_rx.result.0.taken c.finish-replies.result.0.sent
     (c.finish-replies.ensures.bytes ∙ ap (λ (b : Gathered). b.replies.bytes) sent)
     c.finish-replies.ensures.ended
     c.join-replies_rx.result.2 c.join-replies_rx.ensures.1 c.settle_all.ensures.settled
-    (Some (concat c.leave_reading-read.result.1.parts ++ rest)) (left.5 rest ends))
+    (Some (concat c.leave_reading-read.result.1.parts ++ rest)) (left.leaves.5 rest ends))
 
-pub returns-clause-told : goal.returns-clause-told
-returns-clause-told g c = λ rest ends. over_as _ _ (λ xs stop answer both. both.0) _ _ _ _ (returns-clause-order g c
-    rest ends)
+pub returns-clause-writer : goal.returns-clause-writer
+returns-clause-writer g c = rw (c.session_answer-answer.ensures, c.reply_fault-fault.ensures)
+    (session_reports_writer c.join-replies_rx.result.3 c.serve_ends-served.result.stop
+    c.serve_ends-served.result.answer c.session_end.result c.join-replies_rx.result.2 c.finish-replies.result.1
+    c.join-replies_rx.ensures.4)
 
 pub serve_ends-served-requires : goal.serve_ends-served-requires
 serve_ends-served-requires g c =
