@@ -214,7 +214,7 @@ impl<R: Wait + Drop> ContentBatch<R> {
 pub fn weight(parts: &Vec<Vec<u8>>) -> u64 {
     let mut bytes: u64 = 0;
     for content in parts {
-        bytes = bytes.wrapping_add(content.len() as u64);
+        bytes = bytes.saturating_add(content.len() as u64);
     }
     bytes
 }

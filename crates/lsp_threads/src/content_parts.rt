@@ -131,14 +131,9 @@ impl<R: Wait + Drop> ContentParts<R> {
             is_awaited,
             drained,
         } = self;
-        match next_content(rt, rx, takes, waiting, taken, is_awaited) {
-            Next::Content(content) => Next::Content(content),
-            Next::Wake => Next::Wake,
-            Next::End => {
-                *drained = true;
-                Next::End
-            }
-        }
+        let next = next_content(rt, rx, takes, waiting, taken, is_awaited);
+        *drained = matches!(next, Next::End);
+        next
     }
 
     /// Reports to the reading thread that the session goes on after the last content part, if that thread waits for it.

@@ -167,9 +167,9 @@ pub fn write_texts<R: Wait, W: Write>(
         match next_parcel(rt, &mut rx, pending.is_empty()) {
             Some(Parcel::Message(next)) => {
                 let FrameText { text, taken } = next;
-                let held = pending.len().wrapping_add(text.len());
+                let held = pending.len().saturating_add(text.len());
                 let (left, first_fault) = gather(fault, pending, text, &last, writer, given, order);
-                takes.took(rt, held.wrapping_sub(left.len()) as u64);
+                takes.took(rt, held.saturating_sub(left.len()) as u64);
                 pending = left;
                 last = taken;
                 fault = first_fault;
