@@ -52,11 +52,6 @@ module _ {F : Type 0} where
   reply_of out_of_memory = Err no_memory
   reply_of gave_up = Err canceled
 
-  -- what a server sees of a job that found this, or ended so and found nothing
-  abbrev pub end_with : Option F → JobEnd → End F
-  end_with (Some it) end = found it
-  end_with None end = ended end
-
   -- what its server sees of it
   abbrev pub end_of : Came F → End F
   end_of (gave reply (Some it)) = found it

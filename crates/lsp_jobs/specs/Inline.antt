@@ -7,9 +7,9 @@ use Rattle.lsp_message.specs.Id.{Id}
 use Rattle.lsp_message.specs.declared.msg.Notification.{Notification}
 use Rattle.lsp_acts.specs.Acts.{Act, tells, replies, stays}
 use Rattle.lsp_acts.specs.declared.server.Server.{Ghosts as Plain}
-use Rattle.lsp_jobs.specs.Ends.{Came, ComesTo, Outcome, end_of, no_memory}
-use Rattle.lsp_jobs.specs.Pooled.{reply_at}
-use Rattle.lsp_jobs.specs.Stated.{SeesEnd, StatedJobs}
+use Rattle.lsp_jobs.specs.Ends.{Came, ComesTo, Outcome, no_memory}
+use Rattle.lsp_jobs.specs.Pooled.{EndsWithReply}
+use Rattle.lsp_jobs.specs.Stated.{StatedJobs}
 use Rattle.lsp_jobs.specs.declared.inline_jobs.InlineJobs.{InlineJobs}
 use Rattle.lsp_jobs.specs.declared.job_server.JobCommand.{JobCommand}
 use Rattle.lsp_jobs.specs.declared.job_server.JobCommand.TheVariants.{Start, StartAfter, Stop}
@@ -27,12 +27,6 @@ module _ {S J F P : Type 0} (may : StatedJobs S J F P) where
   IsReport job (tells method params) = may.reports job method params
   IsReport job act = ⊥
 
-  -- A job came to this. These are the acts of the server at its end, and then the reply to its request, if it is for
-  -- one.
-  abbrev pub EndsInline : JobName → Came F → S → List (Act P) → S → Type 0
-  EndsInline name came old acts new = (first : List (Act P)) × SeesEnd may old name (end_of came) first new
-      × (acts ≡ first ++ reply_at name came)
-
   -- A job runs. These are the notifications that it sends, and then the acts at its end.
   pub record Runs (name : JobName) (job : J) (old : S) (acts : List (Act P)) (new : S) : Type 0 where
     pub came : Came F
@@ -40,7 +34,7 @@ module _ {S J F P : Type 0} (may : StatedJobs S J F P) where
     pub sent : List (Act P)
     pub reports : All (IsReport job) sent
     pub last : List (Act P)
-    pub ends : EndsInline name came old last new
+    pub ends : EndsWithReply may name came old last new
     pub all : acts ≡ sent ++ last
 
   -- the same, after acts that were done before

@@ -39,6 +39,12 @@ reply_at name came = reply_with name (reply_of came)
 
 -- what a server states of its jobs
 module _ {S J F P : Type 0} (may : StatedJobs S J F P) where
+  -- A job came to this. The server is notified of its end and returns acts, and then the reply to the job's request is
+  -- sent, if it is for one.
+  abbrev pub EndsWithReply : JobName → Came F → S → List (Act P) → S → Type 0
+  EndsWithReply name came old acts new = (first : List (Act P)) × SeesEnd may old name (end_of came) first new
+      × (acts ≡ first ++ reply_at name came)
+
   -- A job ended with this end, and is no longer pending. The server is notified of it and returns acts, and then this
   -- reply is sent.
   abbrev pub Ends : JobName → End F → List (Act P) → S × PendingJobs J → List (Act P) → S × PendingJobs J → Type 0

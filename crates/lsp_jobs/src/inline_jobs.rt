@@ -4,14 +4,13 @@ ghost use Rattle.std.specs.List.{All, FoldsTo};
 ghost use Rattle.std.specs.Prelude.{◌≡◌, ◌++◌, [], ◌∷◌, List, IfOk, Some, map, option_map, string_bytes};
 ghost use Rattle.lsp_message.specs.View.{outcome_view};
 ghost use Rattle.lsp_acts.specs.View.{act_view};
-ghost use Rattle.lsp_jobs.specs.Inline.{told, AnswersLong, Carries, EndsInline, Round, RunsThen, Settles};
+ghost use Rattle.lsp_jobs.specs.Inline.{told, AnswersLong, Carries, Round, RunsThen, Settles};
 ghost use Rattle.lsp_jobs.specs.Outcomes.{MayAsk, MayReport};
-ghost use Rattle.lsp_jobs.specs.PoolView.{came_view};
 
 use crate::job::{DoneJob, Interrupted, Job, JobContext, run_as_text};
 use crate::job_server::{AnsweredBy, JobCommand, JobServer, KeyedJobs, StatesJobs};
 use crate::names::JobName;
-use crate::pooled_server::{one_act, out_of_memory, parts_of, push_reply};
+use crate::pooled_server::{end_job, one_act, out_of_memory};
 use crate::reporter::Picked;
 use lsp_acts::{Act, Server};
 use lsp_message::{Notification, Request, ResponseError};
@@ -76,26 +75,8 @@ impl<S: JobServer<J> + Drop, J: Job> InlineJobs<S, J> {
     {
         let (ran, sent) = perform::<Brand, J>(self.alloc, job)?;
         push_notifications(acts, sent)?;
-        let last = self.end_job(name, ran)?;
+        let last = end_job(&mut self.server, name, ran, self.alloc)?;
         append_acts(acts, last)
-    }
-
-    /// Returns the acts of the server at the end of a job with this result, and the reply to its request after them.
-    fn end_job(
-        &mut self,
-        name: JobName,
-        ran: Result<DoneJob<J::Found>, Interrupted>,
-    ) -> Result<Vec<Act<S::PendingData>>, AllocError>
-        ensures { IfOk result (λ acts. EndsInline ⟦<S as StatesJobs<J>>⟧.jobs name (came_view «ran») self.old.server
-            (map (act_view S.PendingData.eq) acts.items) self.new.server) }
-    {
-        let (outcome, found, end) = parts_of(self.alloc, ran)?;
-        let mut acts = match found {
-            Some(found) => S::KeyedJobs::found(&mut self.server, &name, found, self.alloc)?,
-            None => S::KeyedJobs::ended(&mut self.server, &name, end, self.alloc)?,
-        };
-        push_reply(&mut acts, name, outcome)?;
-        Ok(acts)
     }
 
     /// Carries out a command of the server.

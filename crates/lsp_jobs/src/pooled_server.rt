@@ -1,5 +1,5 @@
 // A server at its pool of jobs: what it does when a message or the message of a job comes.
-ghost use Rattle.std.specs.Prelude.{◌≡◌, ◌⊎◌, ◌∷◌, ◌++◌, [], ℕ, List, None, Err, map, IfOk, string_bytes};
+ghost use Rattle.std.specs.Prelude.{◌≡◌, ◌⊎◌, ◌∷◌, ◌++◌, [], ℕ, List, None, Err, Ok, map, IfOk, string_bytes};
 ghost use Rattle.serde_json.specs.Data.{Data};
 ghost use Rattle.serde_json.specs.View.{view};
 ghost use Rattle.std.specs.List.{FoldsTo};
@@ -9,13 +9,14 @@ ghost use Rattle.lsp_message.specs.declared.msg.code.ErrorCode.TheVariants.{Inte
 ghost use Rattle.lsp_acts.specs.Acts.{canceled, cancelled_by, replies};
 ghost use Rattle.lsp_acts.specs.View.{act_view};
 ghost use Rattle.lsp_jobs.specs.Asking.{by_server, same_origin, ByServers};
-ghost use Rattle.lsp_jobs.specs.Ends.{end_of, end_with, ended, no_memory, reply_of, too_many};
+ghost use Rattle.lsp_jobs.specs.Ends.{end_of, ended, no_memory, too_many};
 ghost use Rattle.lsp_jobs.specs.PendingJobs.{with_job, without};
 ghost use Rattle.lsp_jobs.specs.PoolView.{came_view, pending_jobs};
-ghost use Rattle.lsp_jobs.specs.Pooled.{reply_at, reply_with, unanswered, without_cancelled, Changes, ChangesJobs, Ends, EndsThen, Frees, IsAtOnce, Replaces, StartsOne, TakesLong};
+ghost use Rattle.lsp_jobs.specs.Pooled.{reply_at, reply_with, unanswered, without_cancelled, Changes, ChangesJobs, Ends, EndsThen, EndsWithReply, Frees, IsAtOnce, Replaces, StartsOne, TakesLong};
 ghost use Rattle.lsp_jobs.specs.ServerView.{AnsweredSo};
 ghost use Rattle.lsp_jobs.specs.declared.names.JobName.TheVariants.{Request as OfRequest};
 ghost use Rattle.lsp_jobs.specs.Seen.{seen, seen_with};
+ghost use Rattle.lsp_jobs.specs.Stated.{SeesEnd};
 
 use crate::asking::RequestOrigin;
 use crate::job::{DoneJob, Interrupted, Job};
@@ -126,12 +127,7 @@ where
             Ends ⟦<S as StatesJobs<J>>⟧.jobs name (end_of (came_view «ran»)) (reply_at name (came_view «ran»))
             (seen self.old) (map (act_view S.PendingData.eq) acts.items) (seen self.new)) }
     {
-        let (outcome, found, end) = parts_of(self.alloc, ran)?;
-        let mut acts = match found {
-            Some(found) => S::KeyedJobs::found(&mut self.server, &name, found, self.alloc)?,
-            None => S::KeyedJobs::ended(&mut self.server, &name, end, self.alloc)?,
-        };
-        push_reply(&mut acts, name, outcome)?;
+        let acts = end_job(&mut self.server, name, ran, self.alloc)?;
         self.forget_answered(&acts);
         Ok(acts)
     }
@@ -328,25 +324,68 @@ where
     }
 }
 
-/// Returns the reply to the request of a job with this result, what it found, and how it ended if it found nothing.
-pub(crate) fn parts_of<F: Drop>(
+/// Notifies a server how the job with this name ended, which has this result. Returns the acts of the server, and after
+/// them the reply to the job's request.
+pub(crate) fn end_job<S: JobServer<J>, J: Job>(
+    server: &mut S,
+    name: JobName,
+    ran: Result<DoneJob<J::Found>, Interrupted>,
     alloc: Global,
-    ran: Result<DoneJob<F>, Interrupted>,
-) -> Result<(Result<ResultText, ResponseError>, Option<F>, JobEnd), AllocError>
-    ensures { IfOk result (λ parts. (outcome_view parts.0 ≡ reply_of (came_view «ran»))
-        × (end_with parts.1 parts.2 ≡ end_of (came_view «ran»))) }
+) -> Result<Vec<Act<S::PendingData>>, AllocError>
+    ensures { IfOk result (λ acts. EndsWithReply ⟦<S as StatesJobs<J>>⟧.jobs name (came_view «ran») server.old
+        (map (act_view S.PendingData.eq) acts.items) server.new) }
 {
     match ran {
-        Ok(DoneJob { reply, found }) => {
-            let outcome = match reply {
-                Some(outcome) => outcome,
-                None => Err(internal_error(alloc, "no result")?),
-            };
-            Ok((outcome, found, JobEnd::Done))
+        Ok(done) => end_done(server, name, done, alloc),
+        Err(Interrupted::Memory) => {
+            let error = out_of_memory(alloc)?;
+            end_failed(server, name, JobEnd::Failed, error, alloc)
         }
-        Err(Interrupted::Memory) => Ok((Err(out_of_memory(alloc)?), None, JobEnd::Failed)),
-        Err(Interrupted::Cancelled) => Ok((Err(canceled_error(alloc)?), None, JobEnd::Cancelled)),
+        Err(Interrupted::Cancelled) => {
+            let error = canceled_error(alloc)?;
+            end_failed(server, name, JobEnd::Cancelled, error, alloc)
+        }
     }
+}
+
+/// Does what `end_job` does for a job whose work is done.
+fn end_done<S: JobServer<J>, J: Job>(
+    server: &mut S,
+    name: JobName,
+    done: DoneJob<J::Found>,
+    alloc: Global,
+) -> Result<Vec<Act<S::PendingData>>, AllocError>
+    ensures { IfOk result (λ acts. EndsWithReply ⟦<S as StatesJobs<J>>⟧.jobs name (came_view (Ok «done»)) server.old
+        (map (act_view S.PendingData.eq) acts.items) server.new) }
+{
+    let DoneJob { reply, found } = done;
+    let outcome = match reply {
+        Some(outcome) => outcome,
+        None => Err(internal_error(alloc, "no result")?),
+    };
+    let mut acts = match found {
+        Some(found) => S::KeyedJobs::found(server, &name, found, alloc)?,
+        None => S::KeyedJobs::ended(server, &name, JobEnd::Done, alloc)?,
+    };
+    push_reply(&mut acts, name, outcome)?;
+    Ok(acts)
+}
+
+/// Does what `end_job` does for a job that has no result, and whose request gets this error.
+fn end_failed<S: JobServer<J>, J: Job>(
+    server: &mut S,
+    name: JobName,
+    end: JobEnd,
+    error: ResponseError,
+    alloc: Global,
+) -> Result<Vec<Act<S::PendingData>>, AllocError>
+    ensures { IfOk result (λ acts. (first : List _)
+        × SeesEnd ⟦<S as StatesJobs<J>>⟧.jobs server.old name (ended end) first server.new
+        × (map (act_view S.PendingData.eq) acts.items ≡ first ++ reply_with name (Err (error_view error)))) }
+{
+    let mut acts = S::KeyedJobs::ended(server, &name, end, alloc)?;
+    push_reply(&mut acts, name, Err(error))?;
+    Ok(acts)
 }
 
 /// Adds the reply to the request of a job. A job under a key has none.
