@@ -1,5 +1,5 @@
 //! The pool: the threads that run jobs, and the jobs that are pending.
-ghost use Rattle.std.specs.Prelude.{◌≡◌, Some, IfOk, IfNone, IfSome, OnErr, OnOk};
+ghost use Rattle.std.specs.Prelude.{◌≡◌, Some, IfErr, IfOk, IfNone, IfSome, OnErr, OnOk};
 ghost use Rattle.std.specs.Option.{is_some};
 ghost use Rattle.lsp_jobs.specs.PendingJobs.{no_jobs, without, with_job, Tells};
 ghost use Rattle.lsp_jobs.specs.PoolView.{job_message_view, pending_jobs};
@@ -236,6 +236,11 @@ impl<T: Wait + Drop, J: Job> JobPool<T, J> {
     pub fn has_room(&self) -> bool {
         self.waiting.has_room(&self.rt, false)
     }
+
+    /// Returns whether there is room for one more job with a name of this kind.
+    pub(crate) fn has_room_for(&self, name: &JobName) -> bool {
+        self.waiting.has_room(&self.rt, name.is_keyed())
+    }
 }
 
 impl<T: Wait + Clock + Drop, J: Job> JobPool<T, J> {
@@ -246,67 +251,57 @@ impl<T: Wait + Clock + Drop, J: Job> JobPool<T, J> {
             (pending_jobs self.new ≡ with_job name «job» (pending_jobs self.old)) }
         ensures err { OnErr result (pending_jobs self.new ≡ without name (pending_jobs self.old)) }
     {
-        self.submit_under(&name, job, Duration::ZERO)
-    }
-
-    /// Does what `submit` does, and leaves the name to the caller. A job under a key starts after this time.
-    pub(crate) fn submit_under(
-        &mut self,
-        name: &JobName,
-        job: J,
-        time: Duration,
-    ) -> Result<(), SubmitFault>
-        ensures ok { OnOk result
-            (pending_jobs self.new ≡ with_job name.now «job» (pending_jobs self.old)) }
-        ensures err { OnErr result
-            (pending_jobs self.new ≡ without name.now (pending_jobs self.old)) }
-    {
-        self.cancel(name);
-        if !self.waiting.has_room(&self.rt, name.is_keyed()) {
-            drop(job);
+        self.cancel(&name);
+        if !self.has_room_for(&name) {
+            drop((name, job));
             return Err(SubmitFault::Full);
         }
-        match self.hand_over(name, job, time) {
+        match self.hand_over(name, job, Duration::ZERO) {
             Ok(()) => Ok(()),
-            Err(_) => Err(SubmitFault::Memory),
-        }
-    }
-
-    /// Passes a job to the threads, whether there is room for it or not. If it has a key, it starts after this time.
-    /// The error means that an allocation failed. Then no job has the name, and this one never runs.
-    pub(crate) fn hand_over(
-        &mut self,
-        name: &JobName,
-        job: J,
-        time: Duration,
-    ) -> Result<(), AllocError>
-        ensures ok { OnOk result
-            (pending_jobs self.new ≡ with_job name.now «job» (pending_jobs self.old)) }
-        ensures err { OnErr result
-            (pending_jobs self.new ≡ without name.now (pending_jobs self.old)) }
-    {
-        match self.keep(name, job, time) {
-            Ok(()) => Ok(()),
-            Err(error) => {
-                self.cancel(name);
-                Err(error)
+            Err(name) => {
+                drop(name);
+                Err(SubmitFault::Memory)
             }
         }
     }
 
-    /// Keeps a job, and passes it to the workers. After a fault it may be kept.
-    fn keep(&mut self, name: &JobName, job: J, time: Duration) -> Result<(), AllocError>
+    /// Passes a job to the threads, whether there is room for it or not. If it has a key, it starts after this time. If
+    /// an allocation fails, it returns the name. Then no job has the name, and this one never runs.
+    pub(crate) fn hand_over(&mut self, name: JobName, job: J, time: Duration) -> Result<(), JobName>
         ensures ok { OnOk result
-            (pending_jobs self.new ≡ with_job name.now «job» (pending_jobs self.old)) }
-        ensures err { without name.now (pending_jobs self.new)
-            ≡ without name.now (pending_jobs self.old) }
+            (pending_jobs self.new ≡ with_job name «job» (pending_jobs self.old)) }
+        ensures err { OnErr result (pending_jobs self.new ≡ without name (pending_jobs self.old)) }
+        ensures name { IfErr result (λ back. back ≡ name) }
     {
-        let token = CancellationToken::new(self.alloc, &self.all_end)?;
-        let queued = self.table.enter(name.clone()?, job, token, &self.replies)?;
-        let ticket = queued.ticket;
+        match self.keep(name, job, time) {
+            Ok(()) => Ok(()),
+            Err(name) => {
+                self.cancel(&name);
+                Err(name)
+            }
+        }
+    }
+
+    /// Keeps a job, and passes it to the workers. If an allocation fails, it returns the name, and the job may be kept.
+    fn keep(&mut self, name: JobName, job: J, time: Duration) -> Result<(), JobName>
+        ensures ok { OnOk result
+            (pending_jobs self.new ≡ with_job name «job» (pending_jobs self.old)) }
+        ensures err { without name (pending_jobs self.new) ≡ without name (pending_jobs self.old) }
+        ensures name { IfErr result (λ back. back ≡ name) }
+    {
+        let Ok(token) = CancellationToken::new(self.alloc, &self.all_end) else {
+            return Err(name);
+        };
         let is_keyed_job = name.is_keyed();
-        self.waiting
+        let queued = self.table.enter(name, job, token, &self.replies)?;
+        let ticket = queued.ticket;
+        match self
+            .waiting
             .add(&self.rt, ticket, queued, is_keyed_job, time)
+        {
+            Ok(()) => Ok(()),
+            Err(queued) => Err(queued.name),
+        }
     }
 }
 

@@ -22,7 +22,7 @@ use crate::asking::RequestOrigin;
 use crate::job::{DoneJob, Interrupted, Job};
 use crate::job_server::{AnsweredBy, JobCommand, JobEnd, JobServer, KeyedJobs, StatesJobs};
 use crate::names::{JobKey, JobName};
-use crate::pool::{JobMessage, JobPool, SubmitFault};
+use crate::pool::{JobMessage, JobPool};
 use lsp_acts::{Act, Server, cancelled_id};
 use lsp_message::{ErrorCode, Notification, Request, RequestId, ResponseError, ResultText};
 use serde_json::Value;
@@ -200,11 +200,13 @@ where
               without (OfRequest id) (pending_jobs self.old.pool),
             )))) }
     {
-        let name = JobName::Request(id);
         let mut acts = Vec::new(self.alloc);
-        match self.pool.hand_over(&name, job, Duration::ZERO) {
+        match self
+            .pool
+            .hand_over(JobName::Request(id), job, Duration::ZERO)
+        {
             Ok(()) => Ok(acts),
-            Err(_) => {
+            Err(name) => {
                 push_reply(&mut acts, name, Err(out_of_memory(self.alloc)?))?;
                 Ok(acts)
             }
@@ -316,10 +318,17 @@ where
             StartsOne ⟦<S as StatesJobs<J>>⟧.jobs name «job»
             (seen_with S.PendingData.eq self.old acts.old.items) (seen_with S.PendingData.eq self.new acts.new.items)) }
     {
-        match self.pool.submit_under(&name, job, time) {
+        self.pool.cancel(&name);
+        if !self.pool.has_room_for(&name) {
+            drop(job);
+            return self.end_then(&name, JobEnd::Refused, acts);
+        }
+        match self.pool.hand_over(name, job, time) {
             Ok(()) => Ok(()),
-            Err(SubmitFault::Full) => self.end_then(&name, JobEnd::Refused, acts),
-            Err(SubmitFault::Memory) => Err(AllocError),
+            Err(name) => {
+                drop(name);
+                Err(AllocError)
+            }
         }
     }
 }

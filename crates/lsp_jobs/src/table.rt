@@ -1,6 +1,6 @@
 // The jobs that are pending, and the end of the channel at which what jobs say is taken.
 ghost use Rattle.std.specs.Option.{is_some};
-ghost use Rattle.std.specs.Prelude.{◌≡◌, Some, length, IfOk, IfSome, IsTrue, OnErr, OnOk};
+ghost use Rattle.std.specs.Prelude.{◌≡◌, Some, length, IfOk, IfSome, IsTrue, MatchResult, OnErr, OnOk};
 ghost use Rattle.crossbeam_channel.specs.Claims.{IsSeatAt, view as knows};
 ghost use Rattle.crossbeam_channel.specs.Ends.{receives_on, sends_on};
 ghost use Rattle.lsp_jobs.specs.Outcomes.{KnowsAll, IsSaidBy, all_jobs};
@@ -71,24 +71,30 @@ impl<J: Job> JobTable<J> {
         })
     }
 
-    /// Adds this job, which gets the next ticket. The error means that an allocation failed.
+    /// Adds this job, which gets the next ticket. The table keeps a copy of the name. If an allocation fails, it returns
+    /// the name.
     pub fn enter(
         &mut self,
         name: JobName,
         job: J,
         token: Arc<CancellationToken, Global>,
         replies: &Arc<Mutex<Replies>>,
-    ) -> Result<QueuedJob<J>, AllocError>
+    ) -> Result<QueuedJob<J>, JobName>
         ensures ok { OnOk result
             (pending_of self.new.jobs ≡ with_job name «job» (pending_of self.old.jobs)) }
         ensures err { OnErr result (pending_of self.new.jobs ≡ pending_of self.old.jobs) }
+        ensures name { MatchResult result (λ queued. queued.name ≡ name) (λ back. back ≡ name) }
     {
         let ticket = self.next;
         let Some(next) = ticket.checked_add(1) else {
-            return Err(AllocError);
+            return Err(name);
         };
-        let same = name.clone()?;
-        let theirs = Arc::try_clone(&token)?;
+        let Ok(same) = name.clone() else {
+            return Err(name);
+        };
+        let Ok(theirs) = Arc::try_clone(&token) else {
+            return Err(name);
+        };
         let entry = Entry {
             job: Snapshot::of(&job),
             ticket,
@@ -99,15 +105,15 @@ impl<J: Job> JobTable<J> {
             &self.sender,
             &mut self.pass,
             ticket,
-            same,
+            name,
             job,
             theirs,
             replies,
         )?;
         self.next = next;
-        match self.jobs.add(name, entry) {
+        match self.jobs.add(same, entry) {
             Ok(()) => Ok(queued),
-            Err(_) => Err(AllocError),
+            Err(_) => Err(queued.name),
         }
     }
 

@@ -1,5 +1,7 @@
 // The jobs that wait for a worker: those of requests go first. One that is taken back gives its place to another at once.
 // A job that is to start after a time waits here too, and holds no worker: one that has nothing to do sleeps until then.
+ghost use Rattle.std.specs.Prelude.{◌≡◌, IfErr};
+
 use crate::pool::PoolSize;
 use std::alloc::{AllocError, Global};
 use std::collections::BTreeMap;
@@ -86,11 +88,16 @@ struct Rows<E: Drop> {
 }
 
 impl<E: Drop> Rows<E> {
-    /// Adds a job under a key, which is to start at this time, or at once. Returns false if an allocation failed.
-    fn add_keyed(&mut self, ticket: u64, job: E, due: Option<Duration>) -> bool {
-        match due {
-            Some(due) => self.later.insert(ticket, (due, job)).is_ok(),
-            None => self.keyed.insert(ticket, job).is_ok(),
+    /// Adds a job under a key, which is to start at this time, or at once. If an allocation fails, it returns the job.
+    fn add_keyed(&mut self, ticket: u64, job: E, due: Option<Duration>) -> Result<(), E>
+        ensures { IfErr result (λ back. back ≡ «job») }
+    {
+        let Some(due) = due else {
+            return insert(&mut self.keyed, ticket, job);
+        };
+        match self.later.insert(ticket, (due, job)) {
+            Ok(_) => Ok(()),
+            Err(refused) => Err(refused.value.1.1),
         }
     }
 
@@ -241,7 +248,7 @@ impl<E: Drop> WaitingJobs<E> {
     }
 
     /// Adds a job after all others of its kind, whose tickets are smaller. If it has a key, it is to start after this
-    /// time. The error means that an allocation failed, and the job is dropped.
+    /// time. If an allocation fails, it returns the job.
     pub fn add<T: Wait + Clock>(
         &self,
         rt: &T,
@@ -249,20 +256,21 @@ impl<E: Drop> WaitingJobs<E> {
         job: E,
         is_keyed_job: bool,
         time: Duration,
-    ) -> Result<(), AllocError> {
+    ) -> Result<(), E>
+        ensures { IfErr result (λ back. back ≡ «job») }
+    {
         let due = due_after(rt, time);
         let mut rows = self.rows.lock(rt);
-        let is_added = if is_keyed_job {
+        let added = if is_keyed_job {
             rows.add_keyed(ticket, job, due)
         } else {
-            rows.requests.insert(ticket, job).is_ok()
+            insert(&mut rows.requests, ticket, job)
         };
         drop(rows);
-        if !is_added {
-            return Err(AllocError);
+        if added.is_ok() {
+            self.running.ring();
         }
-        self.running.ring();
-        Ok(())
+        added
     }
 
     /// Takes the job with this ticket back, and drops it. If a worker took it, nothing is done.
@@ -281,6 +289,16 @@ impl<E: Drop> WaitingJobs<E> {
             drop(job);
         }
         unreachable!()
+    }
+}
+
+/// Adds a job under its ticket. If an allocation fails, it returns the job.
+fn insert<E: Drop>(rows: &mut BTreeMap<u64, E>, ticket: u64, job: E) -> Result<(), E>
+    ensures { IfErr result (λ back. back ≡ «job») }
+{
+    match rows.insert(ticket, job) {
+        Ok(_) => Ok(()),
+        Err(refused) => Err(refused.value.1),
     }
 }
 

@@ -1,6 +1,6 @@
 // The threads that run jobs. Each is started for any such job, since the check finds that it may own its ends only if it need not
 // look into the types.
-ghost use Rattle.std.specs.Prelude.{◌≡◌, ◌∷◌, ◌++◌, [], length, OnErr, OnOk, Some};
+ghost use Rattle.std.specs.Prelude.{◌≡◌, ◌∷◌, ◌++◌, [], length, MatchResult, OnErr, OnOk, Some};
 ghost use Rattle.crossbeam_channel.specs.Claims.{IsSeatAt, view as knows};
 ghost use Rattle.crossbeam_channel.specs.Ends.{sends_on};
 ghost use Rattle.lsp_jobs.specs.Outcomes.{KnowsAll, all_jobs};
@@ -16,7 +16,7 @@ use crate::pool::PoolSize;
 use crate::reporter::{Picked, Reporter};
 use crate::waiting_jobs::{JobSource, RunningJobs};
 use lsp_threads::StartFault;
-use std::alloc::{AllocError, Global};
+use std::alloc::Global;
 use std::marker::{Brand, PhantomData};
 use std::sync::{Arc, Mutex, Wait};
 use std::thread::{Builder, JoinHandle, Threads};
@@ -45,7 +45,7 @@ pub(crate) struct QueuedJob<J: Job> {
     alloc: Global,
     job: J,
     pub(crate) ticket: u64,
-    name: JobName,
+    pub(crate) name: JobName,
     token: Arc<CancellationToken, Global>,
     replies: Arc<Mutex<Replies>>,
     sender: ItemSender<J, J::Found>,
@@ -53,7 +53,7 @@ pub(crate) struct QueuedJob<J: Job> {
     ghost known: { IsSeatAt (sends_on sender) pass × (knows pass ≡ One ticket job) },
 }
 
-/// Gives the next ticket, which has this number, to a job. The error means that an allocation failed, and nothing
+/// Gives the next ticket, which has this number, to a job. If an allocation fails, it returns the name, and nothing
 /// changed.
 pub(crate) fn with_ticket<J: Job>(
     alloc: Global,
@@ -64,15 +64,20 @@ pub(crate) fn with_ticket<J: Job>(
     job: J,
     token: Arc<CancellationToken, Global>,
     replies: &Arc<Mutex<Replies>>,
-) -> Result<QueuedJob<J>, AllocError>
+) -> Result<QueuedJob<J>, JobName>
     requires seat { IsSeatAt (sends_on sender.now) pass.old }
     requires all { KnowsAll (knows pass.old) × (length (all_jobs (knows pass.old)) ≡ ticket) }
     ensures seat { IsSeatAt (sends_on sender.now) pass.new × (pass.new.id ≡ pass.old.id) }
     ensures ok { OnOk result (knows pass.new ≡ All (all_jobs (knows pass.old) ++ «job» ∷ [])) }
     ensures err { OnErr result (knows pass.new ≡ knows pass.old) }
+    ensures name { MatchResult result (λ queued. queued.name ≡ name) (λ back. back ≡ name) }
 {
-    let replies = Arc::try_clone(replies)?;
-    let theirs = sender.try_clone()?;
+    let Ok(replies) = Arc::try_clone(replies) else {
+        return Err(name);
+    };
+    let Ok(theirs) = sender.try_clone() else {
+        return Err(name);
+    };
     let job_pass = ticket_for::<Brand, J>(sender, pass, &job);
     Ok(QueuedJob {
         alloc,

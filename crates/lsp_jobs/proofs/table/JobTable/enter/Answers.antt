@@ -6,6 +6,7 @@ use Rattle.lsp_jobs.specs.Outcomes.{KnowsAll, all_jobs}
 use Rattle.lsp_jobs.specs.PendingJobs.{with_job}
 use Rattle.lsp_jobs.specs.Waiting.{HaveTickets, entry_of, job_of, pending_of}
 use Rattle.lsp_jobs.specs.declared.channel.Known.{Known}
+use Rattle.lsp_jobs.specs.declared.names.JobName.{JobName}
 use Rattle.lsp_jobs.proofs.table.JobTable.enter.Goals as goal
 
 pub invariant_of-self : goal.invariant_of-self
@@ -36,15 +37,17 @@ invariant_of-self-2 g c =
         (seat.0 ∙ sym known.0.0 ∙ known.1.0, seat.1 ∙ sym known.0.1 ∙ known.1.1, seat.2, known.1.3),
         (known_all _ _ grown).0,
         one_longer _ jobs c.args.job c.args.self.now.next grown known.3 ∙ sym c.in-Some.ensures.1,
-        registered jobs c.args.job _ (entry_of c.args.self.now.jobs) (entry_of c.add.new.self) c.args.name _
+        registered jobs c.args.job _ (entry_of c.args.self.now.jobs) (entry_of c.add.new.self) c.in-Ok.same _
             c.add.result grown (sym known.3) c.of.ensures c.add.ensures.ok c.add.ensures.err known.4,
       );
     }
 
-pub returns-in-Ok-clause-ok : goal.returns-in-Ok-clause-ok
-returns-in-Ok-clause-ok g c =
-    pending_insert job_of _ _ c.args.name _ c.in-Ok.ensures.ok
-    ∙ ap (λ job. with_job c.args.name job (pending_of c.args.self.now.jobs)) c.of.ensures
+pub returns-in-Ok-add-clause-ok : goal.returns-in-Ok-add-clause-ok
+returns-in-Ok-add-clause-ok g c =
+    let before = pending_of c.args.self.now.jobs in
+    pending_insert job_of _ _ c.in-Ok.same _ c.in-Ok-add.ensures.ok
+    ∙ ap (λ job. with_job c.in-Ok.same job before) c.of.ensures
+    ∙ ap (λ (name : JobName). with_job name c.args.job before) c.in-Ok.ensures
 
 pub returns-in-Err-clause-err : goal.returns-in-Err-clause-err
 returns-in-Err-clause-err g c = ap (jobs_in job_of) c.in-Err.ensures.err
