@@ -473,25 +473,7 @@ fn acts_by_server<P: Drop + PartialEq>(
         map (act_view (same_origin P.eq)) all.items
         ≡ map by_server (map (act_view P.eq) acts.items)) }
 {
-    let mut all = Vec::with_capacity(alloc, acts.len())?;
-    for act in acts {
-        push_by_server(&mut all, act)?;
-    }
-    Ok(all)
-}
-
-/// Adds an act of the server.
-fn push_by_server<P: Drop + PartialEq>(
-    all: &mut Vec<Act<RequestOrigin<P>>>,
-    act: Act<P>,
-) -> Result<(), AllocError>
-    ensures { IfOk result (λ _. map (act_view (same_origin P.eq)) all.new.items
-        ≡ map (act_view (same_origin P.eq)) all.old.items ++ by_server (act_view P.eq «act») ∷ []) }
-{
-    match all.push(act_by_server(act)) {
-        Ok(()) => Ok(()),
-        Err(_) => Err(AllocError),
-    }
+    acts.into_iter().map(act_by_server).collect(alloc)
 }
 
 /// Turns an act of the server into one of the session.
