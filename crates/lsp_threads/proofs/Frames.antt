@@ -2,7 +2,7 @@
 -- says it.
 use Rattle.std.proofs.Common.{◌≡◌, true, false, ◌⊎◌, inl, inr, ℕ, ◌<◌, arith, List, [], ◌∷◌, ◌++◌, ◌∙◌, ap, sym, refl}
 use Rattle.std.proofs.Common.{map, length, length-append, append_assoc, append-nil, Option, Some, None, IfSome, OnSome}
-use Rattle.std.proofs.Common.{Result, Ok, Err, OnOk, string_bytes, subst}
+use Rattle.std.proofs.Common.{Result, Ok, Err, string_bytes, subst}
 use Rattle.std.proofs.KnownBytes.{Appends-nil, Appends-trans}
 use Rattle.std.specs.Io.KnownBytes.{Keeps}
 use Rattle.std.specs.List.{concat, FoldsTo}
@@ -91,11 +91,12 @@ framed old new (m ∷ ms) run =
     )
 
 -- one message more
-pub framed_more : {E : Type 0} (m : plain.Message) (old new : Framing) (frame : List ℕ) (r : Result (Unit {0}) E)
-    → IsFrameOf m frame
-    → OnOk r ((new.relay ≡ old.relay) × (new.bytes ≡ old.bytes ++ frame)) → OnOk r (FramingSends old m (Ok tt) new)
-framed_more m old new frame (Ok done) is joined = (joined.0, (frame, is, joined.1))
-framed_more m old new frame (Err fault) is joined = tt
+pub frame_added : (m : plain.Message) (old new : Framing) (frame : List ℕ) → IsFrameOf m frame
+    → new ≡ record old { bytes = old.bytes ++ frame } → FramingSends old m (Ok tt) new
+frame_added m old new frame is added = (
+  ap (λ (f : Framing). f.relay) added,
+  (frame, is, ap (λ (f : Framing). f.bytes) added),
+)
 
 -- ---- what a thread that reads sent
 module _ (limit : Limits) where

@@ -125,10 +125,10 @@ module _ (wakeable : Bool) {L : Type 0} (passes : L → ReadFault → L → Type
       → P done xs stop answer → Q done xs stop answer)
       (taken : T → Parts) (given : T → Option (List ℕ)) (answer_of : T → Result SessionEnd SessionFault)
       (result : Result T F)
-      → IfOk result (λ done. OfTaken (taken done) (λ text. ThreadsTellOver wakeable passes limit (P done) text first last
-      (Some []) (given done) (answer_of done)))
-      → IfOk result (λ done. OfTaken (taken done) (λ text. ThreadsTellOver wakeable passes limit (Q done) text first last
-      (Some []) (given done) (answer_of done)))
+      → IfOk result (λ done. OfTaken (taken done) (λ text. ThreadsTellOver wakeable passes limit (P done) text first
+      last (Some []) (given done) (answer_of done)))
+      → IfOk result (λ done. OfTaken (taken done) (λ text. ThreadsTellOver wakeable passes limit (Q done) text first
+      last (Some []) (given done) (answer_of done)))
   each_told_as P Q to taken given answer_of (Ok done) tells = λ rest ends. over_as (P done) (Q done) (to done) _ (
     concat (taken done)
         ++ rest,

@@ -7,7 +7,7 @@ use Rattle.lsp_message.specs.Told.{Parts}
 use Rattle.lsp_message.specs.declared.frame.WriteFault.{WriteFault}
 use Rattle.lsp_relay.specs.declared.ends.Parcel.{Parcel}
 use Rattle.lsp_relay.specs.declared.ends.Parcel.TheVariants as parcel
-use Rattle.lsp_threads.specs.Framing.{parcel_bytes}
+use Rattle.lsp_threads.specs.Framing.{parcel_bytes, Framing}
 use Rattle.lsp_threads.specs.Passing.{IsFlushed}
 use Rattle.lsp_threads.specs.declared.frame_text.FrameText.{FrameText}
 
@@ -53,6 +53,13 @@ marks_of parcels = marks_after [] parcels
 -- the same, and that of bytes that are held after them
 abbrev pub all_marks : List (Parcel FrameText) → Parts → List ℕ → List Mark
 all_marks sent taken held = marks_of sent ++ record { taken = taken; bytes = parcel_bytes sent ++ held } ∷ []
+
+-- A batch of frames, as callers see it: the bytes that were sent; the last of them, which are held and not handed over
+-- yet; and what had been taken when the last frame of each text was made.
+pub record Batch : Type 0 where
+  pub framing : Framing
+  pub held : List ℕ
+  pub marks : List Mark
 
 abbrev pub IsAmong : Mark → List Mark → Type 0
 IsAmong mark [] = ⊥

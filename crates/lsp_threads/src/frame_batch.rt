@@ -1,49 +1,55 @@
-//! The ends of a relay of texts: one makes frames and gathers them, and a loop writes them.
+//! The ends of a relay of texts: one gathers frames, and a loop writes them.
 ghost use Rattle.std.specs.Bool.{MatchBool};
-ghost use Rattle.std.specs.Prelude.{◌≡◌, ◌∷◌, ◌++◌, [], None, Ok, IfNone, IfSome, OnErr, OnOk, OnSome, string_bytes};
-ghost use Rattle.lsp_message.specs.View.{message_view};
+ghost use Rattle.std.specs.Prelude.{◌≡◌, ◌∷◌, ◌++◌, [], None, IfNone, IfSome, OnSome, string_bytes};
 ghost use Rattle.lsp_session.specs.SessionFailures.{write_failures};
 ghost use Rattle.lsp_relay.specs.Relay.{IsOpen};
-ghost use Rattle.lsp_threads.specs.Framing.{parcel_bytes, AreEnded, FramingSends, Gathers, WritesBytes, WritesParcels};
+ghost use Rattle.lsp_threads.specs.Framing.{parcel_bytes, AreEnded, Gathers, WritesBytes, WritesParcels};
 ghost use Rattle.lsp_threads.specs.Passing.{GivesMore, IsFlushed, IsFlushedUnless, noted};
-ghost use Rattle.lsp_threads.specs.Writes.{AddsMark, AllWrites, EndsAtMark, NotesWrite, marks_of};
+ghost use Rattle.lsp_threads.specs.Writes.{AddsMark, AllWrites, EndsAtMark, KeepsMarks, NotesWrite, marks_of};
 
 use crate::backlog::{Backlog, Takes};
 use crate::frame_text::FrameText;
 use crate::parcels::{collect, deliver};
 use crate::write_trace::WriteTrace;
-use lsp_message::{ByteTrace, Message, WriteFault, write_frames_traced};
+use lsp_message::{ByteTrace, WriteFault, write_frames_traced};
 use lsp_relay::{Parcel, RelayRx, RelayTx, Taken};
-use std::alloc::{AllocError, Global};
+use std::alloc::Global;
 use std::io::Write;
 use std::marker::Model;
 use std::mem;
 use std::sync::Wait;
 
-/// From how many bytes on a text of frames is sent, although more frames could join it, and how many bytes of texts are
-/// written together. It changes speed and memory only.
-const FULL_PARCEL: usize = 65536;
+/// How many bytes of frames go into one text, and how many bytes of texts are written together, unless one frame has
+/// more. It changes speed and memory only.
+pub const FULL_PARCEL: usize = 65536;
 
-/// The sender's end of a relay of texts. It makes the frame of each message, and gathers frames until they are passed
-/// on.
+/// The sender's end of a relay of texts. It gathers frames, and hands them over as one text.
 #[derive(Drop)]
 pub struct FrameBatch<R: Wait + Drop> {
     rt: R,
     alloc: Global,
     tx: RelayTx<FrameText>,
     unwritten: Backlog,
-    pending: String,
+    /// Frames that were gathered and not handed over yet.
+    held: String,
+    /// What had been taken from the reader when the last frame was made.
+    taken: ByteTrace,
 }
 
 impl<R: Wait + Drop> Model for FrameBatch<R> {
     ghost use Rattle.std.specs.Prelude.{◌++◌, string_bytes};
     ghost use Rattle.lsp_relay.specs.Relay.{IsOpen};
-    ghost use Rattle.lsp_threads.specs.Framing.{parcel_bytes, Framing};
+    ghost use Rattle.lsp_threads.specs.Framing.{parcel_bytes};
+    ghost use Rattle.lsp_threads.specs.Writes.{all_marks, Batch};
 
-    ghost Value = { Framing };
+    ghost Value = { Batch };
 
     ghost view = { λ b.
-        record { relay = b.tx.relay; bytes = parcel_bytes b.tx.sent ++ string_bytes b.pending } };
+        record {
+          framing = record { relay = b.tx.relay; bytes = parcel_bytes b.tx.sent ++ string_bytes b.held };
+          held = string_bytes b.held;
+          marks = all_marks b.tx.sent b.taken.parts (string_bytes b.held);
+        } };
 
     ghost invariant = { λ b. IsOpen b.tx.sent };
 }
@@ -51,80 +57,84 @@ impl<R: Wait + Drop> Model for FrameBatch<R> {
 impl<R: Wait + Drop> FrameBatch<R> {
     pub fn new(rt: R, alloc: Global, tx: RelayTx<FrameText>, unwritten: Backlog) -> FrameBatch<R>
         requires { tx.sent ≡ [] }
-        ensures { result ≡ record { relay = tx.relay; bytes = [] } }
+        ensures { result ≡ record {
+          framing = record { relay = tx.relay; bytes = [] };
+          held = [];
+          marks = record { taken = []; bytes = [] } ∷ [];
+        } }
     {
         FrameBatch {
             rt,
             alloc,
             tx,
             unwritten,
-            pending: String::new(alloc),
+            held: String::new(alloc),
+            taken: ByteTrace::new(),
         }
     }
 
-    /// Adds the frame of a message. The error means that an allocation failed. Then nothing changed.
-    pub fn add(&mut self, message: &Message) -> Result<(), AllocError>
-        ensures ok { OnOk result
-            (FramingSends self.old (message_view message.now) (Ok tt) self.new) }
-        ensures err { OnErr result (self.new ≡ self.old) }
+    /// Adds a frame, which was made when `taken` had been taken. If it does not fit into one text with the frames that
+    /// were gathered, those are handed over first.
+    pub fn add(&mut self, frame: String, taken: ByteTrace)
+        ensures adds { self.new.framing
+            ≡ record self.old.framing { bytes = self.old.framing.bytes ++ string_bytes frame } }
+        ensures marks { AddsMark self.old.marks taken.parts self.new.framing.bytes self.new.marks }
     {
-        let frame = message.to_frame(self.alloc)?;
-        self.join(frame)
-    }
-
-    /// Adds a frame to those that were gathered. If there are none, it is moved and not copied.
-    fn join(&mut self, frame: String) -> Result<(), AllocError>
-        ensures ok { OnOk result ((self.new.relay ≡ self.old.relay)
-            × (self.new.bytes ≡ self.old.bytes ++ string_bytes frame)) }
-        ensures err { OnErr result (self.new ≡ self.old) }
-    {
-        if self.pending.is_empty() {
-            self.pending = frame;
-            return Ok(());
+        if joins(&mut self.held, &frame) {
+            self.taken = taken;
+            return;
         }
-        self.pending.push_str(frame.as_str())
+        self.hand_over();
+        self.held = frame;
+        self.taken = taken;
     }
 
-    /// Sends the gathered frames as one parcel. It waits while too many bytes are not written.
-    fn hand_over(&mut self)
-        ensures { self.new ≡ self.old }
+    /// Hands over the gathered frames as one text. It waits while too many bytes are not written.
+    pub fn hand_over(&mut self)
+        ensures framing { self.new.framing ≡ self.old.framing }
+        ensures held { self.new.held ≡ [] }
+        ensures marks { KeepsMarks self.old.marks self.new.marks }
     {
-        let text = mem::replace(&mut self.pending, String::new(self.alloc));
+        let text = mem::replace(&mut self.held, String::new(self.alloc));
         self.unwritten.add(&self.rt, text.len() as u64);
-        deliver_text(&self.rt, &mut self.tx, text, ByteTrace::new());
+        let taken = self.taken.so_far();
+        deliver_text(&self.rt, &mut self.tx, text, taken);
     }
 
-    /// Sends the gathered frames, unless the next message is available and the parcel is not full.
-    pub fn go_on(&mut self, has_next: bool)
-        ensures { self.new ≡ self.old }
+    /// Hands over the gathered frames if they have at least this many bytes.
+    pub fn hand_over_from(&mut self, size: usize)
+        ensures framing { self.new.framing ≡ self.old.framing }
+        ensures marks { KeepsMarks self.old.marks self.new.marks }
     {
-        if !has_next || self.pending.len() >= FULL_PARCEL {
+        if self.held.len() >= size {
             self.hand_over();
         }
     }
 
-    /// Sends the gathered frames and then End, and returns the relay's end.
+    /// Hands over the gathered frames and then End, and returns the relay's end.
     pub fn finish(self) -> RelayTx<FrameText>
-        ensures relay { result.relay ≡ self.relay }
-        ensures bytes { parcel_bytes result.sent ≡ self.bytes }
+        ensures relay { result.relay ≡ self.framing.relay }
+        ensures bytes { parcel_bytes result.sent ≡ self.framing.bytes }
         ensures ended { AreEnded result.sent }
+        ensures marks { KeepsMarks self.marks (marks_of result.sent) }
     {
         let FrameBatch {
             rt,
             alloc: _,
             mut tx,
             mut unwritten,
-            pending,
+            held,
+            taken,
         } = self;
-        unwritten.add(&rt, pending.len() as u64);
-        deliver_text(&rt, &mut tx, pending, ByteTrace::new());
+        unwritten.add(&rt, held.len() as u64);
+        deliver_text(&rt, &mut tx, held, taken);
         deliver(&rt, &mut tx, Parcel::End);
         tx
     }
 }
 
 /// Sends a text as one parcel, unless it is empty, with a trace of what had been taken when its last frame was made.
-pub fn deliver_text<R: Wait>(rt: &R, tx: &mut RelayTx<FrameText>, text: String, taken: ByteTrace)
+fn deliver_text<R: Wait>(rt: &R, tx: &mut RelayTx<FrameText>, text: String, taken: ByteTrace)
     requires { IsOpen tx.old.sent }
     ensures relay { tx.new.relay ≡ tx.old.relay }
     ensures bytes { parcel_bytes tx.new.sent ≡ parcel_bytes tx.old.sent ++ string_bytes text }
@@ -235,7 +245,7 @@ fn gather<W: Write>(
 
 /// Adds a text to those that are not written. False means that it was not added: there are none, they have no room
 /// together, or an allocation failed.
-pub fn joins(pending: &mut String, text: &str) -> bool
+fn joins(pending: &mut String, text: &str) -> bool
     ensures { MatchBool result (string_bytes pending.new ≡ string_bytes pending.old ++ text.now)
         (string_bytes pending.new ≡ string_bytes pending.old) }
 {

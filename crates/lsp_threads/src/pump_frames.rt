@@ -4,7 +4,7 @@ ghost use Rattle.lsp_threads.specs.Framing.{HandsSome, TellsFrames};
 ghost use Rattle.lsp_threads.specs.Passing.{OfTaken, ReadingFails, TakenFrom};
 
 use crate::backlog::Backlog;
-use crate::frame_batch::FrameBatch;
+use crate::frame_batch::{FULL_PARCEL, FrameBatch};
 use crate::frame_text::FrameText;
 use crate::peeking_reader::PeekingReader;
 use crate::workers::ReadsInto;
@@ -27,10 +27,11 @@ fn read_frames<R: Wait + Drop, S: BufRead>(
     taken: &mut ByteTrace,
 ) -> ReadEnd
     requires { (taken.old.parts ≡ []) × (taken.old.failed ≡ []) }
-    ensures handed { OfTaken taken.new.parts (λ text. HandsSome limits text outbox.old outbox.new result) }
+    ensures handed { OfTaken taken.new.parts (λ text.
+        HandsSome limits text outbox.old.framing outbox.new.framing result) }
     ensures taken { TakenFrom (S.remaining reader.old.inner) taken.new.parts }
     ensures failed { ReadingFails result taken.new }
-    ensures relay { outbox.new.relay ≡ outbox.old.relay }
+    ensures relay { outbox.new.framing.relay ≡ outbox.old.framing.relay }
 {
     for _ in rt.forever() {
         let message = match Message::read_traced(alloc, reader, limits, taken) {
@@ -39,16 +40,18 @@ fn read_frames<R: Wait + Drop, S: BufRead>(
             Err(fault) => return ReadEnd::Fault(fault),
         };
         let is_last = is_exit(&message);
-        let added = outbox.add(&message);
+        let framed = message.to_frame(alloc);
         drop(message);
-        match added {
-            Ok(()) => {}
+        let frame = match framed {
+            Ok(frame) => frame,
             Err(_) => return ReadEnd::Memory,
-        }
+        };
+        outbox.add(frame, taken.so_far());
         if is_last {
             return ReadEnd::Exit;
         }
-        outbox.go_on(reader.shows_frame());
+        let size = if reader.shows_frame() { FULL_PARCEL } else { 0 };
+        outbox.hand_over_from(size);
     }
     unreachable!()
 }

@@ -1,5 +1,5 @@
 //! The outbox of a session with a writing thread. It makes frames, gathers them, and passes them on as texts.
-ghost use Rattle.std.specs.Prelude.{◌≡◌, ◌++◌, ◌∷◌, [], false, Ok, IfErr, IfOk, string_bytes};
+ghost use Rattle.std.specs.Prelude.{◌≡◌, ◌∷◌, [], false, Ok, IfErr, IfOk, string_bytes};
 ghost use Rattle.serde_json.specs.Data.{null};
 ghost use Rattle.serde_json.specs.View.{view};
 ghost use Rattle.lsp_message.specs.Message.{response};
@@ -11,16 +11,14 @@ ghost use Rattle.lsp_threads.specs.Replies.{AddsBytes, RepliesSend, reply_fault 
 ghost use Rattle.lsp_threads.specs.Writes.{AddsMark, KeepsMarks, marks_of};
 
 use crate::backlog::Backlog;
-use crate::frame_batch::{deliver_text, joins};
+use crate::frame_batch::FrameBatch;
 use crate::frame_text::FrameText;
-use crate::parcels::deliver;
 use crate::watched_writer::WriteFaults;
 use lsp_message::{ByteTrace, Message, RequestId, ResultText, WriteFault};
-use lsp_relay::{Parcel, RelayTx};
+use lsp_relay::RelayTx;
 use lsp_session::{SendFault, null_response};
 use std::alloc::Global;
 use std::marker::Model;
-use std::mem;
 use std::sync::Wait;
 
 /// From how many bytes on gathered frames are passed on, although more could join them. It changes speed and memory
@@ -33,14 +31,8 @@ const FULL_TEXT: usize = 8192;
 /// If no memory is left for a frame, or a write has failed, that message and all after it are refused.
 #[derive(Drop)]
 pub struct ReplyOutbox<R: Wait + Drop> {
-    rt: R,
     alloc: Global,
-    tx: RelayTx<FrameText>,
-    unwritten: Backlog,
-    /// Frames that were gathered and not passed on yet.
-    held: String,
-    /// What had been taken from the reader when the last frame was made.
-    taken: ByteTrace,
+    batch: FrameBatch<R>,
     /// Whether the next frame is gathered.
     gathers: bool,
     /// Whether a message was refused.
@@ -49,26 +41,20 @@ pub struct ReplyOutbox<R: Wait + Drop> {
 }
 
 impl<R: Wait + Drop> Model for ReplyOutbox<R> {
-    ghost use Rattle.std.specs.Prelude.{◌++◌, string_bytes};
-    ghost use Rattle.lsp_relay.specs.Relay.{IsOpen};
-    ghost use Rattle.lsp_threads.specs.Framing.{parcel_bytes};
     ghost use Rattle.lsp_threads.specs.Replies.{Gathered};
-    ghost use Rattle.lsp_threads.specs.Writes.{all_marks};
 
     ghost Value = { Gathered };
 
     ghost view = { λ b.
         record {
           replies = record {
-            relay = b.tx.relay;
-            bytes = parcel_bytes b.tx.sent ++ string_bytes b.held;
+            relay = b.batch.framing.relay;
+            bytes = b.batch.framing.bytes;
             failed = b.failed;
           };
-          held = string_bytes b.held;
-          marks = all_marks b.tx.sent b.taken.parts (string_bytes b.held);
+          held = b.batch.held;
+          marks = b.batch.marks;
         } };
-
-    ghost invariant = { λ b. IsOpen b.tx.sent };
 }
 
 impl<R: Wait + Drop> ReplyOutbox<R> {
@@ -87,12 +73,8 @@ impl<R: Wait + Drop> ReplyOutbox<R> {
         } }
     {
         ReplyOutbox {
-            rt,
             alloc,
-            tx,
-            unwritten,
-            held: String::new(alloc),
-            taken: ByteTrace::new(),
+            batch: FrameBatch::new(rt, alloc, tx, unwritten),
             gathers: false,
             failed: false,
             faults,
@@ -156,37 +138,9 @@ impl<R: Wait + Drop> ReplyOutbox<R> {
         ensures adds { AddsBytes self.old.replies (string_bytes frame) self.new.replies }
         ensures marks { AddsMark self.old.marks taken.parts self.new.replies.bytes self.new.marks }
     {
-        self.hold(frame, taken);
-        if self.gathers && self.held.len() < FULL_TEXT {
-            return;
-        }
-        self.hand_over();
-    }
-
-    /// Adds a frame after those that wait. Frames with which it does not fit together are passed on before.
-    fn hold(&mut self, frame: String, taken: ByteTrace)
-        ensures adds { AddsBytes self.old.replies (string_bytes frame) self.new.replies }
-        ensures marks { AddsMark self.old.marks taken.parts self.new.replies.bytes self.new.marks }
-    {
-        if joins(&mut self.held, &frame) {
-            self.taken = taken;
-            return;
-        }
-        self.hand_over();
-        self.held = frame;
-        self.taken = taken;
-    }
-
-    /// Passes on the frames that wait, as one text.
-    fn hand_over(&mut self)
-        ensures replies { self.new.replies ≡ self.old.replies }
-        ensures held { self.new.held ≡ [] }
-        ensures marks { KeepsMarks self.old.marks self.new.marks }
-    {
-        let text = mem::replace(&mut self.held, String::new(self.alloc));
-        self.unwritten.add(&self.rt, text.len() as u64);
-        let taken = self.taken.so_far();
-        deliver_text(&self.rt, &mut self.tx, text, taken);
+        self.batch.add(frame, taken);
+        let size = if self.gathers { FULL_TEXT } else { 0 };
+        self.batch.hand_over_from(size);
     }
 
     /// Gathers frames from now on, if more content parts are available. Otherwise it passes on the frames that wait,
@@ -198,7 +152,7 @@ impl<R: Wait + Drop> ReplyOutbox<R> {
     {
         self.gathers = at_hand;
         if !at_hand {
-            self.hand_over();
+            self.batch.hand_over();
         }
     }
 
@@ -210,21 +164,8 @@ impl<R: Wait + Drop> ReplyOutbox<R> {
         ensures failed { result.1 ≡ self.replies.failed }
         ensures marks { KeepsMarks self.marks (marks_of result.0.sent) }
     {
-        let ReplyOutbox {
-            rt,
-            alloc: _,
-            mut tx,
-            mut unwritten,
-            held,
-            taken,
-            gathers: _,
-            failed,
-            faults: _,
-        } = self;
-        unwritten.add(&rt, held.len() as u64);
-        deliver_text(&rt, &mut tx, held, taken);
-        deliver(&rt, &mut tx, Parcel::End);
-        (tx, failed)
+        let ReplyOutbox { batch, failed, .. } = self;
+        (batch.finish(), failed)
     }
 }
 

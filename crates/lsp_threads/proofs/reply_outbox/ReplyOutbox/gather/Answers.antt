@@ -1,12 +1,16 @@
-use Rattle.std.proofs.Common.{sym, subst}
+use Rattle.std.proofs.Common.{ap, sym, subst}
 use Rattle.lsp_threads.proofs.Writes.{adds_then}
-use Rattle.lsp_threads.specs.Replies.{Replying}
+use Rattle.lsp_threads.specs.Framing.{Framing}
+use Rattle.lsp_threads.specs.Replies.{Gathered}
 use Rattle.lsp_threads.specs.Writes.{AddsMark}
 use Rattle.lsp_threads.proofs.reply_outbox.ReplyOutbox.gather.Goals as goal
 
 pub returns-clause-marks : goal.returns-clause-marks
 returns-clause-marks g c =
-    let held = c.hold.new.self.marks in
-    adds_then _ held _ c.args.taken.parts _
-    (subst (λ (r : Replying). AddsMark c.args.self.now.marks c.args.taken.parts r.bytes held)
-    (sym c.hand_over.ensures.replies) c.hold.ensures.marks) c.hand_over.ensures.marks
+    let added = c.add.new.self in
+    let now = c.hand_over_from.new.self in
+    let taken = c.args.taken.parts in
+    subst (λ m. AddsMark m taken now.framing.bytes now.marks) (ap (λ (b : Gathered). b.marks) c.self.view_is)
+    (adds_then _ added.marks _ taken _
+    (subst (λ (f : Framing). AddsMark c.self.inside.batch.marks taken f.bytes added.marks)
+    (sym c.hand_over_from.ensures.framing) c.add.ensures.marks) c.hand_over_from.ensures.marks)
