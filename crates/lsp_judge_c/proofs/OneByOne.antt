@@ -1,7 +1,7 @@
 -- A session in which the messages of a recording passed is the judgement of that recording.
 use Rattle.std.proofs.Common.{◌≡◌, ◌≢◌, ℕ, ◌+◌, Bool, true, false, true≢false, cond, ◌||◌, List, [], ◌∷◌}
 use Rattle.std.proofs.Common.{Option, Some, None, refl, sym, ap, subst, ◌∙◌, arith}
-use Rattle.std.specs.Prelude.{drop, is_some, option_map, option_and_then}
+use Rattle.std.specs.Prelude.{◌==◌, ◌&&◌, not, drop, is_some, option_map, option_and_then, if◌then◌else◌}
 use Rattle.serde_json.specs.Data.{Data}
 use Rattle.lsp_watch.specs.declared.direction.Direction.{Direction}
 use Rattle.lsp_judge.specs.Judged.{Judged, Judges}
@@ -77,3 +77,42 @@ module _ (choice : Choice) (late : Bool) (none : choice.ignored.items ≡ []) wh
           (after_lines choice late (n + 1) (with_line choice late n j (line_tree line)) more)
       at true is r behind = behind is r
       at false is r behind = absurd (some r)
+
+  -- the choice and the options stay to the last session
+  pub all_keep : (n : ℕ) (s : Session) (ls : List (List ℕ)) (later : List Session) → Keeps s → PassEach n s ls later
+      → Keeps (last_of s later)
+  all_keep n s [] later keeps passes = subst (λ it. Keeps (last_of s it)) (sym passes) keeps
+  all_keep n s (line ∷ more) [] keeps passes = absurd passes
+  all_keep n s (line ∷ more) (t ∷ later) keeps passes =
+      all_keep (n + 1) t more later (keeps_on n line s t keeps (direction_of line) passes.0) passes.1
+
+-- each message was read, if each line was
+unread_on : (place : ℕ) (o : Option Data) (unread : ℕ) → unread ≡ 0 → is_some o ≡ true
+    → (if unread == 0 && not (is_some o) then place else unread) ≡ 0
+unread_on place (Some tree) unread none read = rw none refl
+unread_on place None unread none read = absurd (cc (read))
+
+read_line : (n : ℕ) (line : List ℕ) (s t : Session) (w : Option Direction) → PassesLine w n line s t → s.unread ≡ 0
+    → (is_some (option_and_then (λ direction. of_direction direction (tree_in (drop 3 line))) w)
+    || is_empty_line w line) ≡ true → t.unread ≡ 0
+read_line n line s t None same none read = ap (λ it. it.unread) same ∙ none
+read_line n line s t (Some direction) passes none read =
+    passes.unread ∙ unread_on n (tree_in (drop 3 line)) s.unread none (is_there (tree_in (drop 3 line)) read)
+  where
+    is_there : (o : Option Data) → (is_some (of_direction direction o) || false) ≡ true → is_some o ≡ true
+    is_there (Some tree) is = refl
+    is_there None is = is
+
+pub all_read : (n : ℕ) → n ≢ 0 → (s : Session) (ls : List (List ℕ)) (later : List Session) → s.unread ≡ 0
+    → PassEach n s ls later → first_unread n ls ≡ 0 → (last_of s later).unread ≡ 0
+all_read n some s [] later none passes read = subst (λ it. (last_of s it).unread ≡ 0) (sym passes) none
+all_read n some s (line ∷ more) [] none passes read = absurd passes
+all_read n some s (line ∷ more) (t ∷ later) none passes read = at (is_read line) refl read
+    (λ is r. all_read (n + 1) (omega arith) t more later (read_line n line s t (direction_of line) passes.0 none is)
+    passes.1 r)
+  where
+    at : (b : Bool) → is_read line ≡ b → cond b (first_unread (n + 1) more) n ≡ 0
+        → (is_read line ≡ true → first_unread (n + 1) more ≡ 0 → (last_of t later).unread ≡ 0)
+        → (last_of t later).unread ≡ 0
+    at true is r behind = behind is r
+    at false is r behind = absurd (some r)

@@ -3,13 +3,14 @@ use Rattle.std.specs.Prelude.{◌≡◌, ◌⊎◌, ℕ, ◌+◌, drop, ◌==◌
 use Rattle.std.specs.Prelude.{Option, Some, None, is_some, if◌then◌else◌}
 use Rattle.std.specs.Str.{is_utf8}
 use Rattle.serde_json.specs.Data.{Data}
+use Rattle.lsp_message.specs.HeaderPart.{lines}
 use Rattle.lsp_watch.specs.declared.breach.Verdict.TheVariants.{Breach}
 use Rattle.lsp_watch.specs.declared.direction.Direction.TheVariants.{ToServer, ToClient}
 use Rattle.lsp_watch.specs.declared.direction.Direction.{Direction}
 use Rattle.lsp_watch.specs.declared.rule.Rule.TheVariants.{NotUtf8, NotJson, Unreadable}
 use Rattle.lsp_watch.specs.declared.rule.Rule.{Rule}
 use Rattle.lsp_judge.specs.Judged.{Judged, Judges, nothing, seen, left}
-use Rattle.lsp_judge.specs.Recording.{direction_of, tree_in, with_line}
+use Rattle.lsp_judge.specs.Recording.{direction_of, first_unread, judged_of, tree_in, with_line}
 use Rattle.lsp_judge.specs.declared.choice.Choice.{Choice}
 use Rattle.lsp_judge.specs.declared.judgement.Judgement.{Judgement}
 use Rattle.lsp_judge.specs.declared.passed.Order.TheVariants.{Known}
@@ -98,6 +99,15 @@ abbrev pub last_of : Session → List Session → Session
 last_of s [] = s
 last_of s (t ∷ later) = last_of t later
 
+-- The messages of this recording passed, one after another, in a session that began so. Each line was read.
+pub record Recorded (o : LspJudgeOptions) (text : List ℕ) (s : Session) : Type 0 where
+  pub first : Session
+  pub later : List Session
+  pub begins : Begins o first
+  pub passes : PassEach 1 first (lines text) later
+  pub read : first_unread 1 (lines text) ≡ 0
+  pub last : last_of first later ≡ s
+
 -- ---- statuses
 
 -- by whether a rule is broken that counts, whether there was a message, and the first content that was not read
@@ -112,3 +122,8 @@ status_after s = status_of s.judgement.is_broken true s.unread
 abbrev pub IsEndOf : Session → ℕ → ℕ → Type 0
 IsEndOf s ended status = (j : Judged) → Judges s.judgement j → s.choice.ignored.items ≡ []
     → status ≡ status_of (left s.choice (server_ended ended) (client_ended ended) j) j.is_begun s.unread
+
+-- the status at the end of a session in which the messages of this recording passed
+abbrev pub status_of_recording : Choice → Bool → ℕ → List ℕ → ℕ
+status_of_recording choice late ended text = let j = judged_of choice late text in
+    status_of (left choice (server_ended ended) (client_ended ended) j) j.is_begun 0

@@ -1,8 +1,10 @@
 // What C calls to judge a session one message at a time.
-ghost use Rattle.std.specs.Prelude.{◌≡◌, ◌≢◌, ◌<◌, ◌≤◌, length, take, is_some, true, false, None, MatchOption};
-ghost use Rattle.lsp_judge_c.specs.Messages.{may_open as may_open_in, takes_message as takes_message_in, takes_end as takes_end_in, direction_named, server_ended, client_ended, Begins, Passes, IsEndOf, status_after};
+ghost use Rattle.std.specs.Prelude.{◌≡◌, ◌≢◌, ◌<◌, ◌≤◌, ℕ, List, length, take, is_some, true, false, None, MatchOption};
+ghost use Rattle.lsp_judge_c.specs.Messages.{may_open as may_open_in, takes_message as takes_message_in, takes_end as takes_end_in, direction_named, server_ended, client_ended, Begins, Passes, IsEndOf, Recorded, status_after, status_of_recording};
+ghost use Rattle.lsp_judge_c.specs.Statuses.{is_late};
 
 use crate::handle::LspJudgeSession;
+use crate::laws::a_session_is_judged_as_its_recording;
 use crate::session::Session;
 use crate::{FAILED, LspJudgeOptions, LspJudgeVerdict, OPTIONS_SIZE, REFUSED, VERDICT_SIZE};
 use lsp_judge::judgement::Ends;
@@ -86,7 +88,7 @@ pub extern "C" fn lsp_judge_message(
 }
 
 /// Ends a session, and closes it: tells the requests without a reply and how much there was, writes the lines of the report that fit, and
-/// returns the status. Returns 4 if an allocation failed, and 5 if the session is closed, or another argument is refused: then it is
+/// returns the status. If the messages of a recording passed in it, the status is that of the recording. Returns 4 if an allocation failed, and 5 if the session is closed, or another argument is refused: then it is
 /// unchanged. After both the verdict is unchanged.
 ///
 /// The server has ended at 1 and 3, and the client at 2 and 3. A side has also ended where `exit` passed.
@@ -105,10 +107,13 @@ pub extern "C" fn lsp_judge_end(
     ensures closed { result ≢ REFUSED → session.new.value ≡ None }
     ensures unsaid { FAILED ≤ result → verdict.new ≡ verdict.old }
     ensures status { result < FAILED → MatchOption session.old.value ⊥ (λ before. IsEndOf before ended result) }
+    ensures recorded { result < FAILED → MatchOption session.old.value ⊥ (λ before. (options : LspJudgeOptions) → (text : List ℕ)
+        → Recorded options text before → result ≡ status_of_recording before.choice (is_late options) ended text) }
     ensures unread { result < FAILED → MatchOption session.old.value ⊥ (λ before. verdict.new.unread ≡ before.unread) }
     ensures within { result < FAILED → verdict.new.written ≤ length report.old }
     ensures whole { result < FAILED → verdict.new.needed ≤ length report.old → verdict.new.written ≡ verdict.new.needed }
 {
+    a_session_is_judged_as_its_recording();
     if !takes_end(ended, verdict) {
         return REFUSED;
     }
