@@ -1,0 +1,5 @@
+pub mod Crossing
+pub mod Heard
+mod Lists
+mod Sends
+pub mod Turns
