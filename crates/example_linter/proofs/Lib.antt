@@ -1,6 +1,2 @@
-mod Crossing
-mod Heard
-mod Lists
 mod Marks
-mod Sends
-mod Turns
+mod Stated

@@ -1,4 +1,2 @@
-pub mod Followed
 pub mod Marks
-pub mod Opened
-pub mod Shown
+pub mod Published

@@ -7,8 +7,9 @@ use Rattle.std.specs.Str.Iter.{HasSubslice}
 use Rattle.lsp_text.specs.Columns.{line_text}
 use Rattle.lsp_text.specs.Lines.{LinedText, starts_of}
 use Rattle.lsp_types.specs.declared.diagnostics.Diagnostic.{Diagnostic}
-use Rattle.example_linter.specs.declared.Analysis.{Analysis}
-use Rattle.example_linter.specs.declared.Findings.{Findings}
+use Rattle.lsp_diagnostics.specs.declared.findings.Findings.{Findings}
+use Rattle.lsp_documents.specs.declared.known.DocumentSnapshot.{DocumentSnapshot}
+use Rattle.example_linter.specs.declared.Marking.{Marking}
 
 -- the text has this line, and a `NOTE` stands in it
 abbrev pub HasNote : LinedText → ℕ → Type 0
@@ -40,8 +41,12 @@ pub record AreMarksOf (text : LinedText) (marks : List Data) : Type 0 where
   pub each : All (HasNote text) lines
   pub all : (line : ℕ) → line < 2 ^ 31 → HasNote text line → Contains lines line
 
+-- the text that is analysed
+abbrev pub source_of : Marking → Option DocumentSnapshot
+source_of marking = Some marking.source
+
 -- An analysis comes to all the marks of its text, as these diagnostics are written, and to nothing else.
-abbrev pub FindsMarks : (Diagnostic → Data) → Analysis → Option Findings → Type 0
-FindsMarks written analysis None = ⊥
-FindsMarks written analysis (Some found) = (found.source ≡ analysis.source)
-    × AreMarksOf (arc_value analysis.source.text) (map written found.marks.items)
+abbrev pub FindsMarks : (Diagnostic → Data) → Marking → Option Findings → Type 0
+FindsMarks written marking None = ⊥
+FindsMarks written marking (Some found) = (found.source ≡ marking.source)
+    × AreMarksOf (arc_value marking.source.text) (map written found.diagnostics.items)

@@ -3,7 +3,7 @@ use Rattle.std.proofs.Common.{true}
 use Rattle.lsp_threads.proofs.Sessions.{taken_told_as}
 use Rattle.lsp_threads.specs.Passing.{noted}
 use Rattle.lsp_threads.specs.declared.run.Threaded.{Threaded}
-use Rattle.example_linter.proofs.Crossing.{findings_send}
+use Rattle.lsp_diagnostics.proofs.Crossing.{findings_send}
 use Rattle.example_linter.proofs.serve.Goals as goal
 
 pub returns-clause-told : goal.returns-clause-told
@@ -12,7 +12,7 @@ returns-clause-told g c =
     let lawful = c.session_with_jobs_keeps_laws.ensures.exchanges _ _ exchanges stop answer session in
     record {
       session = lawful;
-      shows = c.marks_are_of_held_texts.ensures _ _ exchanges stop answer c.requires.changes
+      shows = c.marks_are_of_held_texts.ensures _ _ exchanges stop answer c.requires.commands
           c.requires.documents lawful;
     })
     (λ (done : Threaded _). done.taken.parts) (λ (done : Threaded _). noted done.given)
