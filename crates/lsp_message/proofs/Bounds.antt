@@ -1,24 +1,23 @@
 -- A header part of at most so many bytes.
 use Rattle.std.proofs.Common.{◌≡◌, ℕ, ◌+◌, ◌-◌, ◌<◌, ◌≤◌, suc, Bool, true, false, cond, List, [], ◌∷◌, ◌++◌, length}
-use Rattle.std.proofs.Common.{length-append, length-take-le, take, drop, take-append-drop, Option, Some, None, IfSome}
+use Rattle.std.proofs.Common.{length-append, length-take-le, take, drop, take-append-drop, Option, Some, None}
 use Rattle.std.proofs.Common.{Result, Ok, Err, refl, sym, ap, subst, ◌∙◌, arith, nat_lt}
 use Rattle.std.specs.List.{concat}
-use Rattle.std.specs.Io.KnownBytes.{Consumes}
 use Rattle.std.proofs.Math.Seq.{drop-append-add}
 use Rattle.std.proofs.lemmas.Bool.{lt-ltb, le-ltb}
 use Rattle.std.proofs.lemmas.List.{drop_at}
 use Rattle.std.proofs.lemmas.List.Folds.{concat-append}
 use Rattle.lsp_message.specs.HeaderPart.{header_of}
 use Rattle.lsp_message.specs.Limits.{header_under}
-use Rattle.lsp_message.specs.Reading.{Reading, Answers, StopsWithin, StopsBefore}
+use Rattle.lsp_message.specs.Reading.{Reading, StopsWithin, StopsBefore}
 use Rattle.lsp_message.specs.ReadingSteps.{AnswersHeader}
-use Rattle.lsp_message.specs.Told.{Parts, shows_end, MayFollow, IsOfParts}
-use Rattle.lsp_message.specs.ToldSteps.{Spends}
+use Rattle.lsp_message.specs.Told.{Parts}
+use Rattle.lsp_message.specs.ToldSteps.{IsOfHeader, Spends}
 use Rattle.lsp_message.specs.declared.frame.ReadFault.{ReadFault}
 use Rattle.lsp_message.specs.declared.frame.ReadFault.TheVariants.{Input, Memory, HeaderTooLong}
 use Rattle.lsp_message.proofs.HeaderSteps.{header_after-none, header_after-rest}
 use Rattle.lsp_message.proofs.Suffixes.{EndsIn}
-use Rattle.lsp_message.proofs.Told.{concat-one}
+use Rattle.lsp_message.proofs.Told.{concat-one, may_follow}
 
 -- ---- the room
 
@@ -135,41 +134,25 @@ module _ (bound : ℕ) (text front rest : List ℕ) (split : text ≡ front ++ r
           )
       at false = broken
 
-  answers_within : length front ≤ bound → (r : Result (Option ℕ) ReadFault) → Answers (λ n. n) r (Some rest)
-      (header_of text) → Answers (λ n. n) r (Some rest) (header_under (Some bound) text)
-  answers_within size (Ok n) read = subst (λ h. Answers (λ n. n) (Ok n) (Some rest) h) (sym (within (cc (read.1)) size))
-      read
+  answers_within : length front ≤ bound → (r : Result (Option ℕ) ReadFault) → AnswersHeader (λ n. n) r (Some rest)
+      (header_of text)
+      → AnswersHeader (λ n. n) r (Some rest) (header_under (Some bound) text)
+  answers_within size (Ok n) read = subst (λ h. AnswersHeader (λ n. n) (Ok n) (Some rest) h)
+      (sym (within (cc (read.1)) size)) read
   answers_within size (Err (Input kind)) read = stops size read
-  answers_within size (Err Memory) read = stops size read
+  answers_within size (Err Memory) read = (stops size read.0, λ some. breaks size (read.1 some))
   answers_within size (Err fault) read = subst (λ (h : Reading ℕ). (h.outcome ≡ Err fault) × (Some rest ≡ Some h.rest))
       (sym (within (cc (read.1)) size)) read
 
-  header_within : length front ≤ bound → (r : Result (Option ℕ) ReadFault) → AnswersHeader (λ n. n) r (Some rest)
-      (header_of text)
-      → AnswersHeader (λ n. n) r (Some rest) (header_under (Some bound) text)
-  header_within size (Ok n) read = subst (λ h. AnswersHeader (λ n. n) (Ok n) (Some rest) h)
-      (sym (within (cc (read.1)) size)) read
-  header_within size (Err (Input kind)) read = stops size read
-  header_within size (Err Memory) read = breaks size read
-  header_within size (Err fault) read = subst (λ (h : Reading ℕ). (h.outcome ≡ Err fault) × (Some rest ≡ Some h.rest))
-      (sym (within (cc (read.1)) size)) read
-
   -- what is left ends in what the header part leaves
-  left_by : (r : Result (Option ℕ) ReadFault) → Answers (λ n. n) r (Some rest) (header_of text)
+  left_by : (r : Result (Option ℕ) ReadFault) → AnswersHeader (λ n. n) r (Some rest) (header_of text)
       → EndsIn rest (header_of text).rest
   left_by (Ok n) read = ([], cc (read.1))
   left_by (Err (Input kind)) read = (read.0, cc (read.1))
-  left_by (Err Memory) read = (read.0, cc (read.1))
+  left_by (Err Memory) read = (read.0.0, cc (read.0.1))
   left_by (Err fault) read = ([], cc (read.1))
 
-  left_by_header : (r : Result (Option ℕ) ReadFault) → AnswersHeader (λ n. n) r (Some rest) (header_of text)
-      → EndsIn rest (header_of text).rest
-  left_by_header (Ok n) read = ([], cc (read.1))
-  left_by_header (Err (Input kind)) read = (read.0, cc (read.1))
-  left_by_header (Err Memory) read = (read.0 ∷ read.1, cc (read.2))
-  left_by_header (Err fault) read = ([], cc (read.1))
-
-  answers_above : length front ≡ bound + 1 → EndsIn rest (header_of text).rest → Answers {X = ℕ} (λ n. n)
+  answers_above : length front ≡ bound + 1 → EndsIn rest (header_of text).rest → AnswersHeader {X = ℕ} (λ n. n)
       (Err HeaderTooLong) (Some rest) (header_under (Some bound) text)
   answers_above size ends =
       let is = above ends size in
@@ -177,36 +160,14 @@ module _ (bound : ℕ) (text front rest : List ℕ) (split : text ≡ front ++ r
 
 module _ (bound : ℕ) (r : Result (Option ℕ) ReadFault) (parts : Parts) where
   -- the bound was kept
-  pub header_kept : length (concat parts) ≤ bound → (a b : Option (List ℕ)) → Consumes a b (concat parts)
-      → IfSome a (λ text. AnswersHeader (λ n. n) r b (header_of text))
-      → IfSome a (λ text. AnswersHeader (λ n. n) r b (header_under (Some bound) text))
-  header_kept size None b taken read = tt
-  header_kept size (Some text) None taken read = absurd taken
-  header_kept size (Some text) (Some rest) taken read = header_within bound text (concat parts) rest taken size r read
-
-  pub told_kept : length (concat parts) ≤ bound → IsOfParts (λ n. n) header_of r parts → IsOfParts (λ n. n)
+  pub told_kept : length (concat parts) ≤ bound → IsOfHeader (λ n. n) header_of r parts → IsOfHeader (λ n. n)
       (header_under (Some bound)) r parts
   told_kept size told = λ rest may. answers_within bound (concat parts ++ rest) (concat parts) rest refl size r
       (told rest may)
 
   -- a byte above it was taken
-  pub header_above : length (concat parts) ≡ bound + 1 → (a b : Option (List ℕ)) → Consumes a b (concat parts)
-      → IfSome a (λ text. AnswersHeader (λ n. n) r b (header_of text))
-      → IfSome a (λ text. AnswersHeader {X = ℕ} (λ n. n) (Err HeaderTooLong) b (header_under (Some bound) text))
-  header_above size None b taken read = tt
-  header_above size (Some text) None taken read = absurd taken
-  header_above size (Some text) (Some rest) taken read =
-      answers_above bound text (concat parts) rest taken size (left_by_header bound text (concat parts) rest taken r
-      read)
-
-  may_follow : (r : Result (Option ℕ) ReadFault) (rest : List ℕ) → (shows_end parts ≡ true → rest ≡ [])
-      → MayFollow r parts rest
-  may_follow (Ok None) rest may = may
-  may_follow (Ok (Some n)) rest may = tt
-  may_follow (Err fault) rest may = may
-
-  pub told_above : length (concat parts) ≡ bound + 1 → IsOfParts (λ n. n) header_of r parts → IsOfParts {X = ℕ} (λ n. n)
-      (header_under (Some bound)) (Err HeaderTooLong) parts
+  pub told_above : length (concat parts) ≡ bound + 1 → IsOfHeader (λ n. n) header_of r parts → IsOfHeader {X = ℕ}
+      (λ n. n) (header_under (Some bound)) (Err HeaderTooLong) parts
   told_above size told = λ rest may.
       answers_above bound (concat parts ++ rest) (concat parts) rest refl size
-      (left_by bound (concat parts ++ rest) (concat parts) rest refl r (told rest (may_follow r rest may)))
+      (left_by bound (concat parts ++ rest) (concat parts) rest refl r (told rest (may_follow r parts rest may)))

@@ -1,6 +1,6 @@
 -- A frame, from its header part and its content part.
 use Rattle.std.proofs.Common.{◌≡◌, ◌≢◌, ℕ, ◌<◌, ◌≤◌, Bool, true, false, cond, List, [], length, take, drop, Option}
-use Rattle.std.proofs.Common.{Some, None, IfSome, IsSomeAnd, inl, inr, Result, Ok, Err, refl, sym, ap, subst, ◌∙◌}
+use Rattle.std.proofs.Common.{Some, None, IfSome, OnSome, inl, inr, Result, Ok, Err, refl, sym, ap, subst, ◌∙◌}
 use Rattle.std.proofs.Common.{nat_lt}
 use Rattle.std.specs.Option.{ok_or}
 use Rattle.std.specs.Result.{result_map_both}
@@ -11,6 +11,7 @@ use Rattle.serde_json.specs.Data.{Data, null, boolean, number, string, array, ob
 use Rattle.serde_json.specs.Read.{read}
 use Rattle.lsp_message.specs.Frame.{body_means, tree_means, no_message, RunsOutBefore, body_of, content_of, frame_of}
 use Rattle.lsp_message.specs.Frame.{most_content, header_under, reading_of}
+use Rattle.lsp_message.specs.Gathering.{LeavesSome}
 use Rattle.lsp_message.specs.HeaderPart.{header_of}
 use Rattle.lsp_message.specs.Meaning.{meaning}
 use Rattle.lsp_message.specs.Message.{Message}
@@ -21,7 +22,7 @@ use Rattle.lsp_message.specs.declared.frame.ReadFault.TheVariants.{Input, ShortB
 use Rattle.lsp_message.specs.declared.frame.ReadFault.TheVariants.{Memory, TooLong, Batch}
 use Rattle.lsp_message.specs.declared.frame.limits.Limits.{Limits}
 use Rattle.lsp_message.proofs.KnownLines.{IsKnownHeader, header_known}
-use Rattle.lsp_message.proofs.Suffixes.{EndsIn-trans, StopsWithin-less, StopsWithin-start, StopsBefore-within}
+use Rattle.lsp_message.proofs.Suffixes.{EndsIn-trans, StopsWithin-less, StopsWithin-start}
 use Rattle.lsp_message.proofs.Suffixes.{content_of-rest}
 use Rattle.lsp_message.proofs.Bounds.{header_under-rest}
 
@@ -73,17 +74,18 @@ module _ {M : Type 0} (means : List ℕ → Result M ReadFault) (limit : Limits)
       at false = refl
 
   -- the header part was not read
-  pub header_refused : {X : Type 0} (view : X → M) (fault : ReadFault) (a b : Option (List ℕ))
-      → IfSome a (λ text. AnswersHeader (λ n. n) (Err fault) b (header_under limit.header text))
-      → IfSome a (λ text. Answers view (Err fault) b (frame_of means limit text))
-  header_refused view fault None b header = tt
-  header_refused view (Input kind) (Some text) b header = StopsWithin-less b (header_under limit.header text)
-      (frame_of means limit text) header (content_of-rest means limit.content (header_under limit.header text).outcome
+  header_stops : (text rest : List ℕ) → StopsWithin (Some rest) (header_under limit.header text) → StopsWithin
+      (Some rest) (frame_of means limit text)
+  header_stops text rest header = StopsWithin-less (Some rest) (header_under limit.header text) (frame_of means limit
+      text) header (content_of-rest means limit.content (header_under limit.header text).outcome
       (header_under limit.header text).rest)
-  header_refused view Memory (Some text) b header = StopsWithin-less b (header_under limit.header text) (frame_of means
-      limit text) (StopsBefore-within b (header_under limit.header text) header) (content_of-rest means limit.content
-      (header_under limit.header text).outcome (header_under limit.header text).rest)
-  header_refused view fault (Some text) b header = rw (header.0) (refl, header.1)
+
+  pub header_refused : {X : Type 0} (view : X → M) (fault : ReadFault) (text rest : List ℕ)
+      → AnswersHeader {X = ℕ} (λ n. n) (Err fault) (Some rest) (header_under limit.header text)
+      → Answers view (Err fault) (Some rest) (frame_of means limit text)
+  header_refused view (Input kind) text rest header = header_stops text rest header
+  header_refused view Memory text rest header = header_stops text rest header.0
+  header_refused view fault text rest header = rw (header.0) (refl, header.1)
 
   -- no byte of the frame was taken
   pub frame_unread : (text : List ℕ) → StopsWithin (Some text) (frame_of means limit text)
@@ -94,81 +96,57 @@ module _ {M : Type 0} (means : List ℕ → Result M ReadFault) (limit : Limits)
       StopsWithin-start text (frame_of means limit text) (EndsIn-trans text (header_under limit.header text).rest
       (frame_of means limit text).rest header content)
 
-  -- the header part gave a length above the limit
-  pub content_too_long : {X : Type 0} (view : X → M) (a b : Option (List ℕ)) (n : ℕ) → limit.content < n
-      → IfSome a (λ text. AnswersHeader (λ n. n) (Ok (Some n)) b (header_under limit.header text))
-      → IfSome a (λ text. Answers view (Err TooLong) b (frame_of means limit text))
-  content_too_long view None b n above header = tt
-  content_too_long view (Some text) b n above header = rw (header.0, lt-ltb limit.content n above) (refl, header.1)
+  module _ (text left : List ℕ) (n : ℕ) (header : AnswersHeader (λ n. n) (Ok (Some n)) (Some left)
+      (header_under limit.header text)) where
+    -- the header part gave a length above the limit
+    pub content_too_long : {X : Type 0} (view : X → M) → limit.content < n
+        → Answers view (Err TooLong) (Some left) (frame_of means limit text)
+    content_too_long view above = rw (header.0, lt-ltb limit.content n above) (refl, header.1)
 
-  -- the header part gave a length within the limit, and what follows is the content part
-  content_at : (a b : Option (List ℕ)) (n : ℕ) → n ≤ limit.content → IfSome a (λ text. AnswersHeader (λ n. n)
-      (Ok (Some n)) b (header_under limit.header text))
-      → IfSome a (λ text. IsSomeAnd b (λ left. frame_of means limit text ≡ body_of means n left))
-  content_at None b n within header = tt
-  content_at (Some text) None n within header = absurd (cc (header.1))
-  content_at (Some text) (Some left) n within header =
-      let same : (header_under limit.header text).rest ≡ left = cc (header.1) in
-      let rest = (header_under limit.header text).rest in
-      ap (λ o. content_of means limit.content o rest) header.0
-      ∙ ap (λ t. cond {A = Reading M} t (record { outcome = Err TooLong; rest = rest }) (body_of means n rest))
-      (le-ltb limit.content n within)
-      ∙ ap (body_of means n) same
+    -- the header part gave a length within the limit, and what follows is the content part
+    content_at : n ≤ limit.content → frame_of means limit text ≡ body_of means n left
+    content_at within =
+        let same : (header_under limit.header text).rest ≡ left = cc (header.1) in
+        let rest = (header_under limit.header text).rest in
+        ap (λ o. content_of means limit.content o rest) header.0
+        ∙ ap (λ t. cond {A = Reading M} t (record { outcome = Err TooLong; rest = rest }) (body_of means n rest))
+        (le-ltb limit.content n within)
+        ∙ ap (body_of means n) same
 
-  -- the content part was not read
-  pub content_refused : {X Y : Type 0} (view : X → M) (shown : Y → List ℕ) (fault : ReadFault) (a b c : Option (List ℕ))
-      (n : ℕ) → n ≤ limit.content
-      → IfSome a (λ text. AnswersHeader (λ n. n) (Ok (Some n)) b (header_under limit.header text))
-      → IfSome b (λ left. Answers shown (Err fault) c (body_of Ok n left)) → IfSome a (λ text. Answers view (Err fault)
-      c (frame_of means limit text))
-  content_refused view shown fault a b c n within header = at fault a b (content_at a b n within header)
-    where
-      at : (fault : ReadFault) (a b : Option (List ℕ)) → IfSome a (λ text. IsSomeAnd b (λ left. frame_of means limit
-          text ≡ body_of means n left))
-          → IfSome b (λ left. Answers shown (Err fault) c (body_of Ok n left)) → IfSome a (λ text. Answers view
-          (Err fault) c (frame_of means limit text))
-      at fault None b is body = tt
-      at fault (Some text) None is body = absurd is
-      at (Input kind) (Some text) (Some left) is body = rw (is, body_of-rest n left) body
-      at Memory (Some text) (Some left) is body = rw (is, body_of-rest n left) body
-      at fault (Some text) (Some left) is body = rw (is) (
-        body_of-fault n left fault body.0,
-        body.1
-            ∙ ap Some (sym (body_of-rest n left)),
-      )
+    -- the content part was not read
+    pub content_refused : {X Y : Type 0} (view : X → M) (shown : Y → List ℕ) (fault : ReadFault) (rest : List ℕ)
+        → n ≤ limit.content → Answers shown (Err fault) (Some rest) (body_of Ok n left)
+        → Answers view (Err fault) (Some rest) (frame_of means limit text)
+    content_refused view shown (Input kind) rest within body = rw (content_at within, body_of-rest n left) body
+    content_refused view shown Memory rest within body = rw (content_at within, body_of-rest n left) body
+    content_refused view shown fault rest within body = rw (content_at within) (
+      body_of-fault n left fault body.0,
+      body.1
+          ∙ ap Some (sym (body_of-rest n left)),
+    )
 
-  -- the header part gave a length, and the content part was read
-  pub frame_read : (a b c : Option (List ℕ)) (n : ℕ) (items : List ℕ) → n ≤ limit.content
-      → IfSome a (λ text. AnswersHeader (λ n. n) (Ok (Some n)) b (header_under limit.header text))
-      → IfSome b (λ left. Answers (λ bytes. bytes) (Ok (Some items)) c (body_of Ok n left))
-      → IfSome a (λ text. ((frame_of means limit text).outcome ≡ result_map_both Some (λ fault. fault) (means items))
-      × (c ≡ Some (frame_of means limit text).rest))
-  frame_read None b c n items within header body = tt
-  frame_read (Some text) None c n items within header body = absurd (cc (header.1))
-  frame_read (Some text) (Some left) c n items within header body =
-      let found = body_of-bytes n left items body.0 in
-      let content = content_at (Some text) (Some left) n within header in
-      (ap (λ r. r.outcome) content ∙ found.0, body.1 ∙ ap Some (sym found.1 ∙ ap (λ r. r.rest) (sym content)))
+    -- the content part was read, and what was made of it is the answer
+    pub frame_answered : {X : Type 0} (view : X → M) (rest items : List ℕ) (r : Result X ReadFault) → n ≤ limit.content
+        → Answers (λ bytes. bytes) (Ok (Some items)) (Some rest) (body_of Ok n left)
+        → Decodes view r (means items) → Answers view (result_map_both Some (λ fault. fault) r) (Some rest)
+        (frame_of means limit text)
+    frame_answered {X = X} view rest items r within body = at r
+      where
+        content : frame_of means limit text ≡ body_of means n left
+        content = content_at within
 
-  -- and what was made of the content part is the answer
-  pub frame_answered : {X : Type 0} (view : X → M) (a b c : Option (List ℕ)) (n : ℕ) (items : List ℕ)
-      (r : Result X ReadFault) → n ≤ limit.content
-      → IfSome a (λ text. AnswersHeader (λ n. n) (Ok (Some n)) b (header_under limit.header text))
-      → IfSome b (λ left. Answers (λ bytes. bytes) (Ok (Some items)) c (body_of Ok n left))
-      → Decodes view r (means items) → IfSome a (λ text. Answers view (result_map_both Some (λ fault. fault) r) c
-      (frame_of means limit text))
-  frame_answered {X = X} view a b c n items r within header body decoded = at a r decoded (frame_read a b c n items
-      within header body)
-    where
-      at : (o : Option (List ℕ)) (r : Result X ReadFault) → Decodes view r (means items)
-          → IfSome o (λ text. ((frame_of means limit text).outcome ≡ result_map_both Some (λ fault. fault)
-          (means items)) × (c ≡ Some (frame_of means limit text).rest))
-          → IfSome o (λ text. Answers view (result_map_both Some (λ fault. fault) r) c (frame_of means limit text))
-      at None r decoded read = tt
-      at (Some text) (Ok x) decoded read = (read.0 ∙ ap (result_map_both Some (λ fault. fault)) decoded, read.1)
-      at (Some text) (Err (Input kind)) decoded read = ([], read.1)
-      at (Some text) (Err Memory) decoded read = ([], read.1)
-      at (Some text) (Err fault) decoded read = (read.0 ∙ ap (result_map_both Some (λ fault. fault)) decoded, read.1)
+        outcome : (frame_of means limit text).outcome ≡ result_map_both Some (λ fault. fault) (means items)
+        outcome = ap (λ r. r.outcome) content ∙ (body_of-bytes n left items body.0).0
+
+        ends : Some rest ≡ Some (frame_of means limit text).rest
+        ends = body.1 ∙ ap Some (sym (body_of-bytes n left items body.0).1 ∙ ap (λ r. r.rest) (sym content))
+
+        at : (r : Result X ReadFault) → Decodes view r (means items)
+            → Answers view (result_map_both Some (λ fault. fault) r) (Some rest) (frame_of means limit text)
+        at (Ok x) decoded = (outcome ∙ ap (result_map_both Some (λ fault. fault)) decoded, ends)
+        at (Err (Input kind)) decoded = ([], ends)
+        at (Err Memory) decoded = ([], ends)
+        at (Err fault) decoded = (outcome ∙ ap (result_map_both Some (λ fault. fault)) decoded, ends)
 
 -- an answer decodes what it is
 pub decodes_same : {X : Type 0} (view : X → Message) (r : Result X ReadFault) (means : Result Message ReadFault)
@@ -224,12 +202,12 @@ content_known body = given_known (body_means body) (at (is_utf8 body) (read body
 
 module _ (limit : Limits) where
   -- memory ran out in the header part
-  pub memory_in_header : (fault : ReadFault) (a b : Option (List ℕ)) → IfSome a (λ text. AnswersHeader (λ n. n)
-      (Err fault) b (header_under limit.header text)) → fault ≡ Memory
+  pub memory_in_header : (fault : ReadFault) (a b : Option (List ℕ)) → IfSome a (λ text. AnswersHeader {X = ℕ} (λ n. n)
+      (Err fault) b (header_under limit.header text)) → OnSome a (LeavesSome b) → fault ≡ Memory
       → IfSome a (λ text. RunsOutBefore limit text b)
-  memory_in_header fault None b header is = tt
-  memory_in_header fault (Some text) b header is = inl (subst (λ f. AnswersHeader (λ n. n) (Err f) b
-      (header_under limit.header text)) is header)
+  memory_in_header fault None b header some is = tt
+  memory_in_header fault (Some text) b header some is = inl ((subst (λ f. AnswersHeader {X = ℕ} (λ n. n) (Err f) b
+      (header_under limit.header text)) is header).1 some)
 
   -- or after it, before the content part was begun
   pub memory_after_header : (a b c : Option (List ℕ)) (n : ℕ) → n ≤ limit.content → IfSome a (λ text. AnswersHeader

@@ -1,13 +1,12 @@
 -- The header part, line by line.
 use Rattle.std.proofs.Common.{◌≡◌, ◌≢◌, ℕ, Bool, true, false, cond, eqb, List, [], ◌∷◌, length, Option, Some, None}
-use Rattle.std.proofs.Common.{IfSome, IsSomeAnd, Result, Ok, Err, refl, sym, ap, subst, ◌∙◌}
+use Rattle.std.proofs.Common.{Result, Ok, Err, refl, sym, ap, subst, ◌∙◌}
 use Rattle.std.specs.Io.BufRead.{take_through, drop_through}
 use Rattle.std.specs.List.{concat}
 use Rattle.std.specs.Result.{result_map_both}
-use Rattle.lsp_message.specs.Gathering.{EndsLine}
 use Rattle.lsp_message.specs.HeaderPart.{header_line, is_field, fields, after_fields, length_in, or_else}
 use Rattle.lsp_message.specs.HeaderPart.{content_length, at_last_line, header_end, header_of, lines, onto_first}
-use Rattle.lsp_message.specs.Reading.{Reading, StopsWithin, StopsBefore}
+use Rattle.lsp_message.specs.Reading.{Reading, StopsWithin}
 use Rattle.lsp_message.specs.ReadingSteps.{AnswersHeader, first_line}
 use Rattle.lsp_message.specs.declared.frame.ReadFault.{ReadFault}
 use Rattle.lsp_message.specs.declared.frame.ReadFault.TheVariants.{Input, Memory}
@@ -111,8 +110,8 @@ header_after-line length (b ∷ bs) = at (is_field (header_line (take_through 10
     at false is = rw (at_line length b bs _ refl is) (EndsIn-refl _)
 
 -- of the header part that the first bytes begin, the second are left after fields with this length
-abbrev pub Continues : Option (List ℕ) → Option (List ℕ) → Option ℕ → Type 0
-Continues a b length = IfSome a (λ text. IsSomeAnd b (λ left. header_of text ≡ header_after length left))
+abbrev pub Continues : List ℕ → List ℕ → Option ℕ → Type 0
+Continues text left length = header_of text ≡ header_after length left
 
 -- a fault that is the reading's, or the reader's
 line_fault : {X A : Type 0} (view : X → A) (fault : ReadFault) (left : Option (List ℕ)) (reading : Reading A)
@@ -122,15 +121,42 @@ line_fault view (Input kind) left reading known outcome rest = ([], rest)
 line_fault view Memory left reading known outcome rest = absurd (known refl)
 line_fault view fault left reading known outcome rest = (outcome, rest)
 
-module _ (given : Option ℕ) where
+-- a line that was taken whole, and tested
+pub line_read : (text line rest : List ℕ) (r : Result HeaderLine ReadFault) → take_through 10 text ≡ line
+    → drop_through 10 text ≡ rest → (length line ≡ 0 → ⊥) → r ≡ header_line line
+    → AnswersHeader (λ line. line) (result_map_both Some (λ fault. fault) r) (Some rest) (first_line text)
+line_read [] line rest r taken left some is = absurd (some (ap length (sym taken)))
+line_read (x ∷ xs) line rest (Ok l) taken left some is = (
+  ap (result_map_both Some (λ fault. fault))
+      (sym (is ∙ ap header_line (sym taken))),
+  ap Some (sym left),
+)
+line_read (x ∷ xs) line rest (Err fault) taken left some is =
+    line_fault (λ line. line) fault (Some rest) (first_line (x ∷ xs)) (λ memory. line_tested line (sym is ∙ ap Err
+    memory))
+    (ap (result_map_both Some (λ fault. fault)) (sym (is ∙ ap header_line (sym taken)))) (ap Some (sym left))
+
+-- the header part was not read to its end
+pub Continues-stops : (text left : List ℕ) (given : Option ℕ) → Continues text left given → StopsWithin (Some left)
+    (header_of text)
+Continues-stops text left given same = rw (same) (StopsWithin-start left (header_after given left)
+    (header_after-rest given left))
+
+-- what the next line of the header part comes to
+abbrev pub Next : Option ℕ → List ℕ → List ℕ → Result (Option HeaderLine) ReadFault → Type 0
+Next given text rest (Err fault) = AnswersHeader {X = ℕ} (λ n. n) (Err fault) (Some rest) (header_of text)
+Next given text rest (Ok None) = AnswersHeader {X = ℕ} (λ n. n) (Ok None) (Some rest) (header_of text)
+Next given text rest (Ok (Some Blank)) = AnswersHeader (λ n. n) (at_last_line given (Ok Blank)) (Some rest)
+    (header_of text)
+Next given text rest (Ok (Some (Length n))) = Continues text rest (Some n)
+Next given text rest (Ok (Some Other)) = Continues text rest given
+
+module _ (given : Option ℕ) (text : List ℕ) where
   -- the input ends at a line's start
-  pub at_input_end : (a b c : Option (List ℕ)) → Continues a b given → IfSome b (λ left. AnswersHeader (λ line. line)
-      (Ok None) c (first_line left))
-      → IfSome a (λ text. AnswersHeader (λ n. n) (Ok None) c (header_of text))
-  at_input_end None b c same line = tt
-  at_input_end (Some text) None c same line = absurd same
-  at_input_end (Some text) (Some []) c same line = (ap (λ r. r.outcome) same, line.1 ∙ ap (λ r. Some r.rest) (sym same))
-  at_input_end (Some text) (Some (x ∷ xs)) c same line = absurd (never (header_line (take_through 10 (x ∷ xs))) line.0)
+  at_input_end : (left rest : List ℕ) → Continues text left given → AnswersHeader {X = HeaderLine} (λ line. line)
+      (Ok None) (Some rest) (first_line left) → AnswersHeader {X = ℕ} (λ n. n) (Ok None) (Some rest) (header_of text)
+  at_input_end [] rest same line = (ap (λ r. r.outcome) same, line.1 ∙ ap (λ r. Some r.rest) (sym same))
+  at_input_end (x ∷ xs) rest same line = absurd (never (header_line (take_through 10 (x ∷ xs))) line.0)
     where
       never : (r : Result HeaderLine ReadFault) → result_map_both Some (λ fault. fault) r ≡ Ok None → ⊥
       never (Ok line) is = cc
@@ -142,29 +168,27 @@ module _ (given : Option ℕ) where
   found_line (Err fault) last is = cc
 
   -- a field
-  pub at_field : (line : HeaderLine) (a b c : Option (List ℕ)) → is_field (Ok line) ≡ true → Continues a b given
-      → IfSome b (λ left. AnswersHeader (λ line. line) (Ok (Some line)) c (first_line left))
-      → Continues a c (or_else (length_in (Ok line)) given)
-  at_field line None b c goes same read = tt
-  at_field line (Some text) None c goes same read = absurd same
-  at_field line (Some text) (Some []) c goes same read = absurd (cc (read.0))
-  at_field line (Some text) (Some (x ∷ xs)) c goes same read = rw (read.1) (same ∙ after_field given x xs (Ok line)
+  at_field : (line : HeaderLine) (left rest : List ℕ) → is_field (Ok line) ≡ true → Continues text left given
+      → AnswersHeader (λ line. line) (Ok (Some line)) (Some rest) (first_line left)
+      → Continues text rest (or_else (length_in (Ok line)) given)
+  at_field line [] rest goes same read = absurd (cc (read.0))
+  at_field line (x ∷ xs) rest goes same read =
+      let is : drop_through 10 (x ∷ xs) ≡ rest = cc (read.1) in
+      subst (λ l. Continues text l (or_else (length_in (Ok line)) given)) is (same ∙ after_field given x xs (Ok line)
       (found_line _ line read.0) goes)
 
   -- a bad line, or the blank one
-  pub at_last : (line : Result HeaderLine ReadFault) (a b c : Option (List ℕ)) → is_field line ≡ false
-      → Continues a b given
-      → IfSome b (λ left. ((first_line left).outcome ≡ result_map_both Some (λ fault. fault) line)
-      × (c ≡ Some (first_line left).rest))
-      → IfSome a (λ text. ((header_of text).outcome ≡ at_last_line given line) × (c ≡ Some (header_of text).rest))
-  at_last line None b c stops same read = tt
-  at_last line (Some text) None c stops same read = absurd same
-  at_last line (Some text) (Some []) c stops same read = absurd (never line read.0)
+  at_last : (line : Result HeaderLine ReadFault) (left rest : List ℕ) → is_field line ≡ false
+      → Continues text left given
+      → ((first_line left).outcome ≡ result_map_both Some (λ fault. fault) line)
+      × (Some rest ≡ Some (first_line left).rest)
+      → ((header_of text).outcome ≡ at_last_line given line) × (Some rest ≡ Some (header_of text).rest)
+  at_last line [] rest stops same read = absurd (never line read.0)
     where
       never : (r : Result HeaderLine ReadFault) → Ok None ≡ result_map_both Some (λ fault. fault) r → ⊥
       never (Ok line) is = cc
       never (Err fault) is = cc
-  at_last line (Some text) (Some (x ∷ xs)) c stops same read =
+  at_last line (x ∷ xs) rest stops same read =
       let reading = same ∙ at_line given x xs line (same_line _ line read.0) stops in
       (ap (λ r. r.outcome) reading, read.1 ∙ ap (λ r. Some r.rest) (sym reading))
     where
@@ -175,73 +199,36 @@ module _ (given : Option ℕ) where
       same_line (Err r) (Ok s) is = cc
       same_line (Err r) (Err s) is = cc
 
--- a line that was gathered and tested
-pub line_read : (a c : Option (List ℕ)) (gathered : List ℕ) (r : Result HeaderLine ReadFault) → EndsLine [] a gathered c
-    → (length gathered ≡ 0 → ⊥) → r ≡ header_line gathered
-    → IfSome a (λ text. AnswersHeader (λ line. line) (result_map_both Some (λ fault. fault) r) c (first_line text))
-line_read None c gathered r ends some is = tt
-line_read (Some []) c gathered r ends some is = absurd (some (ap length ends.0))
-line_read (Some (x ∷ xs)) c gathered (Ok line) ends some is = (
-  ap (result_map_both Some (λ fault. fault))
-      (sym (is ∙ ap header_line ends.0)),
-  ends.1,
-)
-line_read (Some (x ∷ xs)) c gathered (Err fault) ends some is =
-    line_fault (λ line. line) fault c (first_line (x ∷ xs)) (λ memory. line_tested gathered (sym is ∙ ap Err memory))
-    (ap (result_map_both Some (λ fault. fault)) (sym (is ∙ ap header_line ends.0))) ends.1
+  -- nothing after the line was taken
+  at_stop : (left rest : List ℕ) → Continues text left given → StopsWithin (Some rest) (first_line left)
+      → StopsWithin (Some rest) (header_of text)
+  at_stop left rest same read = rw (same) (StopsWithin-less (Some rest) (first_line left) (header_after given left) read
+      (header_after-line given left))
 
--- nothing after the line was taken
-at_stop : (given : Option ℕ) (a b c : Option (List ℕ)) → Continues a b given → IfSome b (λ left. StopsWithin c
-    (first_line left)) → IfSome a (λ text. StopsWithin c (header_of text))
-at_stop given None b c same read = tt
-at_stop given (Some text) None c same read = absurd same
-at_stop given (Some text) (Some left) c same read =
-    rw (same) (StopsWithin-less c (first_line left) (header_after given left) read (header_after-line given left))
-
--- a byte of the line at least was not taken
-at_break : (given : Option ℕ) (a b c : Option (List ℕ)) → Continues a b given → IfSome b (λ left. StopsBefore c
-    (first_line left)) → IfSome a (λ text. StopsBefore c (header_of text))
-at_break given None b c same read = tt
-at_break given (Some text) None c same read = absurd same
-at_break given (Some text) (Some left) c same read =
-    rw (same) (StopsBefore-less c (first_line left) (header_after given left) read (header_after-line given left))
-
--- the header part was not read to its end
-pub Continues-stops : (a b : Option (List ℕ)) (given : Option ℕ) → Continues a b given → IfSome a (λ text. StopsWithin b
-    (header_of text))
-Continues-stops None b given same = tt
-Continues-stops (Some text) None given same = absurd same
-Continues-stops (Some text) (Some left) given same = rw (same) (StopsWithin-start left (header_after given left)
-    (header_after-rest given left))
-
--- the line was refused
-pub at_fault : (given : Option ℕ) (fault : ReadFault) (a b c : Option (List ℕ)) → Continues a b given
-    → IfSome b (λ left. AnswersHeader (λ line. line) (Err fault) c (first_line left))
-    → IfSome a (λ text. AnswersHeader (λ n. n) (Err fault) c (header_of text))
-at_fault given (Input kind) a b c same read = at_stop given a b c same read
-at_fault given Memory a b c same read = at_break given a b c same read
-at_fault given fault a b c same read = at_last given (Err fault) a b c refl same read
+  -- the line was refused
+  at_fault : (fault : ReadFault) (left rest : List ℕ) → Continues text left given → AnswersHeader (λ line. line)
+      (Err fault) (Some rest) (first_line left)
+      → AnswersHeader {X = ℕ} (λ n. n) (Err fault) (Some rest) (header_of text)
+  at_fault (Input kind) left rest same read = at_stop left rest same read
+  at_fault Memory left rest same read = (
+    at_stop left rest same read.0,
+    λ some. rw (same) (StopsBefore-less (Some rest) (first_line left) (header_after given left) (read.1 some)
+        (header_after-line given left)),
+  )
+  at_fault fault left rest same read = at_last (Err fault) left rest refl same read
 
 -- the blank line
-pub at_blank : (given : Option ℕ) (a b c : Option (List ℕ)) → Continues a b given → IfSome b (λ left. AnswersHeader
-    (λ line. line) (Ok (Some Blank)) c (first_line left))
-    → IfSome a (λ text. AnswersHeader (λ n. n) (at_last_line given (Ok Blank)) c (header_of text))
-at_blank None a b c same read = at_last None (Ok Blank) a b c refl same read
-at_blank (Some n) a b c same read = at_last (Some n) (Ok Blank) a b c refl same read
+at_blank : (given : Option ℕ) (text left rest : List ℕ) → Continues text left given → AnswersHeader (λ line. line)
+    (Ok (Some Blank)) (Some rest) (first_line left)
+    → AnswersHeader (λ n. n) (at_last_line given (Ok Blank)) (Some rest) (header_of text)
+at_blank None text left rest same read = at_last None text (Ok Blank) left rest refl same read
+at_blank (Some n) text left rest same read = at_last (Some n) text (Ok Blank) left rest refl same read
 
--- what the next line of the header part comes to
-abbrev pub Next : Option ℕ → Option (List ℕ) → Option (List ℕ) → Result (Option HeaderLine) ReadFault → Type 0
-Next given a c (Err fault) = IfSome a (λ text. AnswersHeader (λ n. n) (Err fault) c (header_of text))
-Next given a c (Ok None) = IfSome a (λ text. AnswersHeader (λ n. n) (Ok None) c (header_of text))
-Next given a c (Ok (Some Blank)) = IfSome a (λ text. AnswersHeader (λ n. n) (at_last_line given (Ok Blank)) c
-    (header_of text))
-Next given a c (Ok (Some (Length n))) = Continues a c (Some n)
-Next given a c (Ok (Some Other)) = Continues a c given
-
-pub next : (given : Option ℕ) (a b c : Option (List ℕ)) (r : Result (Option HeaderLine) ReadFault) → Continues a b given
-    → IfSome b (λ left. AnswersHeader (λ line. line) r c (first_line left)) → Next given a c r
-next given a b c (Err fault) same read = at_fault given fault a b c same read
-next given a b c (Ok None) same read = at_input_end given a b c same read
-next given a b c (Ok (Some Blank)) same read = at_blank given a b c same read
-next given a b c (Ok (Some (Length n))) same read = at_field given (Length n) a b c refl same read
-next given a b c (Ok (Some Other)) same read = at_field given Other a b c refl same read
+pub next : (given : Option ℕ) (text left rest : List ℕ) (r : Result (Option HeaderLine) ReadFault) → Continues text left
+    given
+    → AnswersHeader (λ line. line) r (Some rest) (first_line left) → Next given text rest r
+next given text left rest (Err fault) same read = at_fault given text fault left rest same read
+next given text left rest (Ok None) same read = at_input_end given text left rest same read
+next given text left rest (Ok (Some Blank)) same read = at_blank given text left rest same read
+next given text left rest (Ok (Some (Length n))) same read = at_field given text (Length n) left rest refl same read
+next given text left rest (Ok (Some Other)) same read = at_field given text Other left rest refl same read

@@ -13,7 +13,6 @@ pub mod Joined
 pub mod KnownLines
 mod Members
 pub mod Numerals
-mod Places
 mod Plain
 mod Printed
 mod ReadBack
@@ -24,7 +23,6 @@ pub mod Sendable
 mod Separators
 pub mod Shown
 mod Suffixes
-mod Takings
 pub mod Texts
 pub mod Told
 mod ToldHeaders

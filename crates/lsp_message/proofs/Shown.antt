@@ -1,16 +1,16 @@
 -- What a reader shows of the bytes that it has left, and what a line takes of it.
-use Rattle.std.proofs.Common.{◌≡◌, ◌≢◌, ℕ, zero, suc, ◌+◌, ◌<◌, ◌≤◌, eqb, eq-eqb, ne_eqb, Bool, true, false, true≢false}
-use Rattle.std.proofs.Common.{List, [], ◌∷◌, ◌++◌, length, take, drop, get_or, get_or-take, take-take, take_all}
-use Rattle.std.proofs.Common.{length-take, length-take-le, append_assoc, le_refl, eqb-true, All, Option, Some, None}
+use Rattle.std.proofs.Common.{◌≡◌, ◌≢◌, ℕ, zero, suc, ◌+◌, ◌<◌, ◌≤◌, eq-eqb, ne_eqb}
+use Rattle.std.proofs.Common.{List, [], ◌∷◌, ◌++◌, length, take, drop, get_or, get_or-take, take-take}
+use Rattle.std.proofs.Common.{length-take, length-take-le, eqb-true, All, Option, Some, None}
 use Rattle.std.proofs.Common.{IfSome, OnSome, Result, Ok, Bor, refl, sym, ap, subst, ◌∙◌, arith}
 use Rattle.std.proofs.lemmas.List.{get_or_default}
 use Rattle.std.specs.Io.{StartsWith}
-use Rattle.std.specs.Io.BufRead.{take_through, drop_through, FillKeeps, DropsConsumable}
+use Rattle.std.specs.Io.BufRead.{take_through, drop_through, FillKeeps}
 use Rattle.std.specs.Io.KnownBytes.{Keeps}
 use Rattle.std.proofs.KnownBytes.{starts_with_rest}
 use Rattle.std.proofs.BufReadLemmas.{take_through-append, drop_through-append}
 use Rattle.memchr.specs.Find.{IsFirstByte, is_byte}
-use Rattle.lsp_message.specs.Gathering.{KeepsLine, EndsLine, LeavesSome}
+use Rattle.lsp_message.specs.Gathering.{LeavesSome}
 
 -- the first line ends at its first line feed
 take_through-at : (xs : List ℕ) (k : ℕ) → k < length xs → get_or xs k 0 ≡ 10 → ((j : ℕ) → j < k → get_or xs j 0 ≢ 10)
@@ -28,19 +28,6 @@ pub kept_shown : {E : Type 0} (a b : Option (List ℕ)) (limit : Option ℕ) (r 
     (s : Bor (List ℕ)) → r ≡ Ok s
     → FillKeeps a b limit r → Keeps a b × IfSome a (λ _. IfSome limit (λ n. length s.now ≤ n))
 kept_shown a b limit r s is kept = subst (FillKeeps a b limit) is kept
-
--- a reader that kept its bytes while it showed some, and then gave n of these
-pub dropped : (a b c : Option (List ℕ)) (limit : Option ℕ) (shown : List ℕ) (n : ℕ) → n ≤ length shown → Keeps a b
-    → IfSome a (λ _. IfSome limit (λ k. length shown ≤ k)) → DropsConsumable b c limit n → IfSome a (λ xs. c
-    ≡ Some (drop n xs))
-dropped None b c limit shown n within kept fits drops = tt
-dropped (Some x) None c limit shown n within kept fits drops = absurd kept
-dropped (Some x) (Some y) c limit shown n within kept fits drops = drops (room limit fits) ∙ ap (λ l. Some (drop n l))
-    kept
-  where
-    room : (o : Option ℕ) → IfSome o (λ k. length shown ≤ k) → IfSome o (λ k. n ≤ k)
-    room None h = tt
-    room (Some k) h = omega arith
 
 -- bytes are left, if some of them are shown
 pub shown_left : (a b : Option (List ℕ)) (shown : List ℕ) → Keeps a b → IfSome a (λ xs. StartsWith xs shown)
@@ -105,66 +92,3 @@ pub fits_shown : (a : Option (List ℕ)) (limit : Option ℕ) (shown : List ℕ)
 fits_shown None limit shown most within fits = tt
 fits_shown (Some xs) None shown most within fits = tt
 fits_shown (Some xs) (Some n) shown most within fits = omega (arith, fits, length-take-le most shown within)
-
--- the first count bytes of what is shown belong to the first line, and whether they end it
-pub record IsLinePart (shown : List ℕ) (count : ℕ) (whole : Bool) : Type 0 where
-  pub within : count ≤ length shown
-  pub ended : whole ≡ true → (xs : List ℕ) → StartsWith xs shown → (length shown ≡ 0 → xs ≡ [])
-      → (take_through 10 xs ≡ take count shown) × (drop_through 10 xs ≡ drop count xs)
-  pub unended : whole ≡ false → (xs : List ℕ) → StartsWith xs shown
-      → (take_through 10 xs ≡ take count shown ++ take_through 10 (drop count xs)) × (drop_through 10 xs
-      ≡ drop_through 10 (drop count xs))
-
-pub part_to_feed : (shown : List ℕ) (k : ℕ) → IsFirstByte (is_byte 10) shown (Some k) → IsLinePart shown (k + 1) true
-part_to_feed shown k first = record {
-  within = let below = first.0.high in omega arith;
-  ended = λ _ xs front _. through_feed shown xs front k first;
-  unended = λ e. absurd (true≢false e);
-}
-
-pub part_with_no_feed : (shown : List ℕ) → IsFirstByte (is_byte 10) shown None → IsLinePart shown (length shown)
-    (eqb (length shown) 0)
-part_with_no_feed shown nowhere = record {
-  within = le_refl _;
-  ended = λ e xs front end.
-      let none = eqb-true _ _ e in
-      let empty = end none in (
-        ap (take_through 10) empty ∙ sym (ap (λ n. take n shown) none),
-        ap (drop_through 10) empty ∙ sym (ap (λ n. drop n []) none) ∙ sym (ap (drop (length shown)) empty),
-      );
-  unended = λ _ xs front.
-      let past = past_shown shown xs front nowhere in (
-        past.0 ∙ ap (λ l. l ++ take_through 10 (drop (length shown) xs)) (sym (take_all (length shown) shown
-            (le_refl _))),
-        past.1,
-      );
-}
-
-module _ (a c : Option (List ℕ)) (old new shown : List ℕ) (count : ℕ) (whole : Bool) (part : IsLinePart shown count
-    whole)
-    (taken : new ≡ old ++ take count shown) where
-  pub line_ends : IfSome a (λ xs. StartsWith xs shown) → IfSome a (λ xs. length shown ≡ 0 → xs ≡ [])
-      → IfSome a (λ xs. c ≡ Some (drop count xs)) → whole ≡ true → EndsLine old a new c
-  line_ends = at a
-    where
-      at : (o : Option (List ℕ)) → IfSome o (λ xs. StartsWith xs shown) → IfSome o (λ xs. length shown ≡ 0 → xs ≡ [])
-          → IfSome o (λ xs. c ≡ Some (drop count xs)) → whole ≡ true → EndsLine old o new c
-      at None front end left is = tt
-      at (Some xs) front end left is =
-          let line = part.ended is xs front end in
-          (taken ∙ ap (λ l. old ++ l) (sym line.0), left ∙ ap Some (sym line.1))
-
-  pub line_goes_on : IfSome a (λ xs. StartsWith xs shown) → IfSome a (λ xs. c ≡ Some (drop count xs)) → whole ≡ false
-      → KeepsLine old a new c
-  line_goes_on = at a
-    where
-      at : (o : Option (List ℕ)) → IfSome o (λ xs. StartsWith xs shown) → IfSome o (λ xs. c ≡ Some (drop count xs))
-          → whole ≡ false → KeepsLine old o new c
-      at None front left is = tt
-      at (Some xs) front left is =
-          let line = part.unended is xs front in
-          rw left (
-            ap (λ l. l ++ take_through 10 (drop count xs)) taken ∙ append_assoc old _ _ ∙ ap (λ l. old ++ l)
-                (sym line.0),
-            sym line.1,
-          )

@@ -1,11 +1,15 @@
 -- Parts that were taken from a reader, one after another.
-use Rattle.std.proofs.Common.{◌≡◌, ℕ, true, List, [], ◌∷◌, ◌++◌, length, Option, Some, None, OnSome, refl, sym, ap}
-use Rattle.std.proofs.Common.{subst, ◌∙◌, arith, append_assoc, append-nil}
+use Rattle.std.proofs.Common.{◌≡◌, ℕ, true, List, [], ◌∷◌, ◌++◌, length, Option, Some, None, IfSome, OnSome, Result}
+use Rattle.std.proofs.Common.{Ok, Err, refl, sym, ap, subst, ◌∙◌, arith, append_assoc, append-nil}
 use Rattle.std.specs.List.{concat}
 use Rattle.std.specs.Io.KnownBytes.{Keeps, Consumes, IsAtEnd}
 use Rattle.std.proofs.KnownBytes.{Consumes-trans}
 use Rattle.std.proofs.lemmas.List.Folds.{concat-append}
-use Rattle.lsp_message.specs.Told.{Parts, is_nothing, shows_end, Takes}
+use Rattle.lsp_message.specs.Reading.{Reading, Answers}
+use Rattle.lsp_message.specs.ReadingSteps.{AnswersHeader}
+use Rattle.lsp_message.specs.Told.{Parts, is_nothing, shows_end, Takes, Told, MayFollow, IsOfParts}
+use Rattle.lsp_message.specs.ToldSteps.{IsOfHeader}
+use Rattle.lsp_message.specs.declared.frame.ReadFault.{ReadFault}
 
 pub shows_end-append : (ps : Parts) (q : List ℕ) (qs : Parts) → shows_end (ps ++ q ∷ qs) ≡ shows_end (q ∷ qs)
 shows_end-append [] q qs = refl
@@ -85,3 +89,37 @@ joined ps qs rest = ap (λ l. l ++ rest) (concat-append ps qs) ∙ append_assoc 
 pub end_of_last : (ps qs : Parts) → shows_end qs ≡ true → shows_end (ps ++ qs) ≡ true
 end_of_last ps [] is = absurd (cc (is))
 end_of_last ps (q ∷ qs) is = shows_end-append ps q qs ∙ is
+
+-- ---- what follows if the bytes are known
+
+-- What holds of each text that begins with the parts holds of the bytes that are known.
+pub of_known : (F : List ℕ → Option (List ℕ) → Type 0) (ps before after : Parts) (a b : Option (List ℕ)) → Takes ps
+    before after a b → ((rest : List ℕ) → (shows_end ps ≡ true → rest ≡ []) → F (concat ps ++ rest) (Some rest))
+    → IfSome a (λ text. F text b)
+of_known F ps before after None b takes holds = tt
+of_known F ps before after (Some text) None takes holds = absurd takes.consumed
+of_known F ps before after (Some text) (Some rest) takes holds = subst (λ l. F l (Some rest)) (sym takes.consumed)
+    (holds rest takes.at_end)
+
+-- what holds if the later bytes are known holds if the earlier ones are
+pub known_later : (P : Type 0) (a b : Option (List ℕ)) (bytes : List ℕ) → Consumes a b bytes → OnSome b P → OnSome a P
+known_later P None b bytes taken holds = tt
+known_later P (Some x) None bytes taken holds = absurd taken
+known_later P (Some x) (Some y) bytes taken holds = holds
+
+pub may_follow : {X : Type 0} (r : Result (Option X) ReadFault) (ps : Parts) (rest : List ℕ) → (shows_end ps ≡ true
+    → rest ≡ []) → MayFollow r ps rest
+may_follow (Ok None) ps rest may = may
+may_follow (Ok (Some x)) ps rest may = tt
+may_follow (Err fault) ps rest may = may
+
+-- a reading of the parts is one of the known bytes
+module _ {X A : Type 0} (view : X → A) (reading : List ℕ → Reading A) (r : Result (Option X) ReadFault) (t u : Parts)
+    (a b : Option (List ℕ)) where
+  pub told_known : Told (IsOfParts view reading r) t u a b → IfSome a (λ text. Answers view r b (reading text))
+  told_known told = of_known (λ text left. Answers view r left (reading text)) told.0 t u a b told.1 (λ rest may. told.2
+      rest (may_follow r told.0 rest may))
+
+  pub told_header : Told (IsOfHeader view reading r) t u a b → IfSome a (λ text. AnswersHeader view r b (reading text))
+  told_header told = of_known (λ text left. AnswersHeader view r left (reading text)) told.0 t u a b told.1 (λ rest
+      may. told.2 rest (may_follow r told.0 rest may))

@@ -4,137 +4,99 @@ use Rattle.std.proofs.Common.{length-append, Option, Some, None, Result, Ok, Err
 use Rattle.std.proofs.Common.{append_assoc, append-nil}
 use Rattle.std.specs.List.{concat}
 use Rattle.std.specs.declared.io.ErrorKind.{ErrorKind}
-use Rattle.std.specs.declared.io.ErrorKind.TheVariants.{Other as OtherKind}
 use Rattle.std.proofs.lemmas.Bool.{lt-ltb}
 use Rattle.std.proofs.lemmas.List.Folds.{concat-append}
 use Rattle.lsp_message.specs.Frame.{body_of, frame_of, header_under}
 use Rattle.lsp_message.specs.Gathering.{IsFromReader}
 use Rattle.lsp_message.specs.HeaderPart.{header_of, at_last_line}
-use Rattle.lsp_message.specs.Reading.{Answers, StopsWithin, found}
-use Rattle.lsp_message.specs.ReadingSteps.{AnswersHeader, first_line, Decodes}
-use Rattle.lsp_message.specs.Told.{Parts, shows_end, Told, IsOfParts}
-use Rattle.lsp_message.specs.ToldSteps.{ReadsLine, TakesPart}
+use Rattle.lsp_message.specs.Reading.{Answers, found}
+use Rattle.lsp_message.specs.ReadingSteps.{Decodes}
+use Rattle.lsp_message.specs.Told.{Parts, shows_end, Told, MayFollow, IsOfParts}
+use Rattle.lsp_message.specs.ToldSteps.{IsOfHeader, ReadsLine, TakesPart}
 use Rattle.lsp_message.specs.declared.frame.ReadFault.{ReadFault}
 use Rattle.lsp_message.specs.declared.frame.ReadFault.TheVariants.{Input, Memory, ShortBody, TooLong}
 use Rattle.lsp_message.specs.declared.frame.header.HeaderLine.{HeaderLine}
-use Rattle.lsp_message.specs.declared.frame.header.HeaderLine.TheVariants.{Blank, Length, Other}
+use Rattle.lsp_message.specs.declared.frame.header.HeaderLine.TheVariants.{Blank}
 use Rattle.lsp_message.specs.declared.frame.limits.Limits.{Limits}
 use Rattle.lsp_message.proofs.Contents.{header_refused, content_too_long, content_refused, frame_answered}
 use Rattle.lsp_message.proofs.ContentParts.{decoded, not_there, not_read}
 use Rattle.lsp_message.proofs.HeaderSteps.{Continues, Continues-stops, Next, next, header_after-none}
 use Rattle.lsp_message.proofs.Suffixes.{body_stops, body_whole, body_fails}
 use Rattle.lsp_message.proofs.Told.{concat-one, shows_end-one, end_of_last, joined, Takes-trans}
-use Rattle.lsp_message.proofs.ToldLines.{line_broken, line_ended, line_found, line_faulty}
+use Rattle.lsp_message.proofs.ToldLines.{line_answers}
 
 -- ---- the header part
 
 -- the fields of a header part were taken, with this length, and it goes on with whatever follows
 abbrev pub GoesOn : Option ℕ → Parts → Type 0
-GoesOn given parts = (rest : List ℕ) → Continues (Some (concat parts ++ rest)) (Some rest) given
+GoesOn given parts = (rest : List ℕ) → Continues (concat parts ++ rest) rest given
 
 -- what the next line of the header part comes to
 abbrev pub NextTold : Option ℕ → Result (Option HeaderLine) ReadFault → Parts → Type 0
-NextTold given (Err fault) parts = IsOfParts {X = ℕ} (λ n. n) header_of (Err fault) parts
-NextTold given (Ok None) parts = IsOfParts {X = ℕ} (λ n. n) header_of (Ok None) parts
-NextTold given (Ok (Some Blank)) parts = IsOfParts (λ n. n) header_of (at_last_line given (Ok Blank)) parts
-NextTold given (Ok (Some (Length n))) parts = GoesOn (Some n) parts
-NextTold given (Ok (Some Other)) parts = GoesOn given parts
+NextTold given r parts = (rest : List ℕ) → MayFollow r parts rest → Next given (concat parts ++ rest) rest r
 
 -- nothing was taken yet
 pub begins : GoesOn None []
 begins = λ rest. header_after-none rest
 
-pub starts : (a : Option (List ℕ)) → Continues a a None
-starts None = tt
-starts (Some text) = header_after-none text
+header_next : (given : Option ℕ) (ps qs : Parts) → GoesOn given ps → (r : Result (Option HeaderLine) ReadFault)
+    → ReadsLine r qs → NextTold given r (ps ++ qs)
+header_next given ps qs goes r line = λ rest may.
+    subst (λ text. Next given text rest r) (sym (joined ps qs rest)) (next given (concat ps ++ (concat qs ++ rest))
+    (concat qs ++ rest) rest r (goes (concat qs ++ rest)) (line_answers r qs line rest (last r rest may)))
+  where
+    last : (r : Result (Option HeaderLine) ReadFault) (rest : List ℕ) → MayFollow r (ps ++ qs) rest
+        → MayFollow r qs rest
+    last (Ok None) rest may = λ is. may (end_of_last ps qs is)
+    last (Ok (Some line)) rest may = tt
+    last (Err fault) rest may = λ is. may (end_of_last ps qs is)
 
-module _ (given : Option ℕ) (ps qs : Parts) (goes : GoesOn given ps) where
-  -- what is said of the text that the last parts begin
-  all : (P : List ℕ → Type 0) (rest : List ℕ) → P (concat ps ++ (concat qs ++ rest)) → P (concat (ps ++ qs) ++ rest)
-  all P rest holds = subst P (sym (joined ps qs rest)) holds
-
-  may_last : (rest : List ℕ) → (shows_end (ps ++ qs) ≡ true → rest ≡ []) → shows_end qs ≡ true → rest ≡ []
-  may_last rest may is = may (end_of_last ps qs is)
-
-  after : (r : Result (Option HeaderLine) ReadFault) (rest : List ℕ) → AnswersHeader (λ line. line) r (Some rest)
-      (first_line (concat qs ++ rest))
-      → Next given (Some (concat ps ++ (concat qs ++ rest))) (Some rest) r
-  after r rest read = next given (Some (concat ps ++ (concat qs ++ rest))) (Some (concat qs ++ rest)) (Some rest) r
-      (goes (concat qs ++ rest)) read
-
-  header_next : (r : Result (Option HeaderLine) ReadFault) → ReadsLine r qs → NextTold given r (ps ++ qs)
-  header_next (Ok None) line = λ rest may.
-      all (λ text. Answers {X = ℕ} (λ n. n) (Ok None) (Some rest) (header_of text)) rest (after (Ok None) rest
-      (line_ended qs rest line (may_last rest may)))
-  header_next (Ok (Some Blank)) line = λ rest may. at given rest (after (Ok (Some Blank)) rest (line_found Blank qs rest
-      line))
-    where
-      at : (n : Option ℕ) (rest : List ℕ) → AnswersHeader (λ n. n) (at_last_line n (Ok Blank)) (Some rest)
-          (header_of (concat ps ++ (concat qs ++ rest)))
-          → Answers (λ n. n) (at_last_line n (Ok Blank)) (Some rest) (header_of (concat (ps ++ qs) ++ rest))
-      at None rest holds = all (λ text. Answers (λ n. n) (at_last_line None (Ok Blank)) (Some rest) (header_of text))
-          rest holds
-      at (Some n) rest holds = all (λ text. Answers (λ n. n) (at_last_line (Some n) (Ok Blank)) (Some rest)
-          (header_of text)) rest holds
-  header_next (Ok (Some (Length n))) line = λ rest.
-      all (λ text. Continues (Some text) (Some rest) (Some n)) rest (after (Ok (Some (Length n))) rest
-      (line_found (Length n) qs rest line))
-  header_next (Ok (Some Other)) line = λ rest.
-      all (λ text. Continues (Some text) (Some rest) given) rest (after (Ok (Some Other)) rest (line_found Other qs rest
-      line))
-  header_next (Err (Input kind)) line = λ rest may.
-      all (λ text. StopsWithin (Some rest) (header_of text)) rest (after (Err (Input kind)) rest (line_broken kind qs
-      rest line))
-  header_next (Err Memory) line = λ rest may.
-      all (λ text. StopsWithin (Some rest) (header_of text)) rest (after (Err (Input OtherKind)) rest
-      (line_broken OtherKind qs rest line))
-  header_next (Err fault) line = λ rest may.
-      all (λ text. Answers {X = ℕ} (λ n. n) (Err fault) (Some rest) (header_of text)) rest (after (Err fault) rest
-      (line_faulty fault qs rest line.0 line.1 line.2 (may_last rest may)))
-
-pub told_header : (given : Option ℕ) (r : Result (Option HeaderLine) ReadFault) (t u v : Parts) (a b c : Option
-    (List ℕ)) → Told (GoesOn given) t u a b → Told (ReadsLine r) u v b c
-    → Told (NextTold given r) t v a c
-told_header given r t u v a b c first second = (
-  first.0 ++ second.0,
-  Takes-trans first.0 second.0 t u v a b c first.1 second.1,
-  header_next given first.0 second.0
-      first.2 r second.2,
-)
-
--- the same at an answer, or a length, that is equal
+-- at an answer that is equal
 pub told_header_as : (given : Option ℕ) (r s : Result (Option HeaderLine) ReadFault) (t u v : Parts) (a b c : Option
     (List ℕ)) → r ≡ s → Told (GoesOn given) t u a b → Told (ReadsLine r) u v b c
     → Told (NextTold given s) t v a c
-told_header_as given r s t u v a b c same first second = subst (λ r. Told (NextTold given r) t v a c) same
-    (told_header given r t u v a b c first second)
+told_header_as given r s t u v a b c same first second = subst (λ r. Told (NextTold given r) t v a c) same (
+  first.0 ++ second.0,
+  Takes-trans first.0 second.0 t u v a b c first.1 second.1,
+  header_next given first.0 second.0 first.2 r second.2,
+)
 
 pub told_goes_as : (n m : Option ℕ) (t u : Parts) (a b : Option (List ℕ)) → n ≡ m → Told (GoesOn n) t u a b
     → Told (GoesOn m) t u a b
 told_goes_as n m t u a b same told = subst (λ n. Told (GoesOn n) t u a b) same told
 
-pub told_length_as : (r s : Result (Option ℕ) ReadFault) (t u : Parts) (a b : Option (List ℕ)) → r ≡ s
-    → Told (IsOfParts (λ n. n) header_of r) t u a b → Told (IsOfParts (λ n. n) header_of s) t u a b
-told_length_as r s t u a b same told = subst (λ r. Told (IsOfParts (λ n. n) header_of r) t u a b) same told
+-- the blank line, at a length that is equal
+pub told_length_as : (given : Option ℕ) (s : Result (Option ℕ) ReadFault) (t u : Parts) (a b : Option (List ℕ))
+    → at_last_line given (Ok Blank) ≡ s → Told (NextTold given (Ok (Some Blank))) t u a b
+    → Told (IsOfHeader (λ n. n) header_of s) t u a b
+told_length_as given s t u a b same told = subst (λ r. Told (IsOfHeader (λ n. n) header_of r) t u a b) same (
+  told.0,
+  told.1,
+  λ rest may. told.2 rest tt,
+)
+
+pub blank_is_no_memory : (given : Option ℕ) → at_last_line given (Ok Blank) ≡ Err Memory → ⊥
+blank_is_no_memory None is = cc (is)
+blank_is_no_memory (Some n) is = cc (is)
 
 -- the header part was not read to its end
 pub told_unread : (given : Option ℕ) (kind : ErrorKind) (t u : Parts) (a b : Option (List ℕ)) → Told (GoesOn given) t u
     a b
-    → Told (IsOfParts {X = ℕ} (λ n. n) header_of (Err (Input kind))) t u a b
+    → Told (IsOfHeader {X = ℕ} (λ n. n) header_of (Err (Input kind))) t u a b
 told_unread given kind t u a b told =
-    (told.0, told.1, λ rest may. Continues-stops (Some (concat told.0 ++ rest)) (Some rest) given (told.2 rest))
+    (told.0, told.1, λ rest may. Continues-stops (concat told.0 ++ rest) rest given (told.2 rest))
 
 -- ---- the content part
 
 module _ {X : Type 0} (view : X → List ℕ) (n : ℕ) where
   -- there was no room for it
   pub body_refused : IsOfParts view (body_of Ok n) (Err Memory) []
-  body_refused = λ rest may. body_stops Ok n (Some rest) (Some rest) [] refl (omega arith)
+  body_refused = λ rest may. body_stops Ok n rest [] rest refl (omega arith)
 
   pub body_is_whole : (x : X) (parts : Parts) → view x ≡ concat parts → length (view x) ≡ n
       → IsOfParts view (body_of Ok n) (Ok (Some x)) parts
-  body_is_whole x parts is whole = λ rest may. body_whole view x n (Some (concat parts ++ rest)) (Some rest) (ap (λ l. l
-      ++ rest) (sym is)) whole
+  body_is_whole x parts is whole = λ rest may. body_whole view x n (concat parts ++ rest) rest (ap (λ l. l ++ rest)
+      (sym is)) whole
 
   pub body_is_short : (parts : Parts) → length (concat parts) < n → shows_end parts ≡ true
       → IsOfParts view (body_of Ok n) (Err ShortBody) parts
@@ -145,8 +107,8 @@ module _ {X : Type 0} (view : X → List ℕ) (n : ℕ) where
 
   pub body_broken : (fault : ReadFault) (parts : Parts) → IsFromReader fault → length (concat parts) ≤ n
       → IsOfParts view (body_of Ok n) (Err fault) parts
-  body_broken fault parts failed within = λ rest may. body_fails view fault n (Some (concat parts ++ rest)) (Some rest)
-      (concat parts) failed refl within
+  body_broken fault parts failed within = λ rest may. body_fails view fault n (concat parts ++ rest) (concat parts) rest
+      failed refl within
 
 -- what was taken of a content part, and then more
 pub told_body : (r : Result Bool ReadFault) (x y z : List ℕ) (t u v : Parts) (a b c : Option (List ℕ))
@@ -184,45 +146,36 @@ takes_nothing old kind r came = ⊎_elim
 
 module _ {M : Type 0} (means : List ℕ → Result M ReadFault) (limit : Limits) {X : Type 0} (view : X → M) where
   -- the header part was not read
-  pub told_refused : (fault : ReadFault) (parts : Parts) → IsOfParts {X = ℕ} (λ n. n) (header_under limit.header)
+  pub told_refused : (fault : ReadFault) (parts : Parts) → IsOfHeader {X = ℕ} (λ n. n) (header_under limit.header)
       (Err fault) parts → IsOfParts view (frame_of means limit) (Err fault) parts
-  told_refused fault parts header = λ rest may. at fault rest (header rest may)
-    where
-      at : (fault : ReadFault) (rest : List ℕ) → Answers {X = ℕ} (λ n. n) (Err fault) (Some rest)
-          (header_under limit.header (concat parts ++ rest))
-          → Answers view (Err fault) (Some rest) (frame_of means limit (concat parts ++ rest))
-      at (Input kind) rest header = header_refused means limit view (Input kind) (Some (concat parts ++ rest))
-          (Some rest) header
-      at Memory rest header = header_refused means limit view (Input OtherKind) (Some (concat parts ++ rest))
-          (Some rest) header
-      at fault rest header = header_refused means limit view fault (Some (concat parts ++ rest)) (Some rest) header
+  told_refused fault parts header = λ rest may. header_refused means limit view fault (concat parts ++ rest) rest
+      (header rest may)
 
   -- the input ended
-  pub told_none : (parts : Parts) → IsOfParts {X = ℕ} (λ n. n) (header_under limit.header) (Ok None) parts
+  pub told_none : (parts : Parts) → IsOfHeader {X = ℕ} (λ n. n) (header_under limit.header) (Ok None) parts
       → IsOfParts view (frame_of means limit) (Ok None) parts
   told_none parts header = λ rest may. let read = header rest may in rw (read.0) (refl, read.1)
 
-  pub told_long : (n : ℕ) (parts : Parts) → limit.content < n → IsOfParts {X = ℕ} (λ n. n) (header_under limit.header)
+  pub told_long : (n : ℕ) (parts : Parts) → limit.content < n → IsOfHeader {X = ℕ} (λ n. n) (header_under limit.header)
       (Ok (Some n)) parts → IsOfParts view (frame_of means limit) (Err TooLong) parts
-  told_long n parts above header = λ rest may. content_too_long means limit view (Some (concat parts ++ rest))
-      (Some rest) n above (header rest tt)
+  told_long n parts above header = λ rest may. content_too_long means limit (concat parts ++ rest) rest n
+      (header rest tt) view above
 
 module _ (limit : Limits) {X : Type 0} (view : X → List ℕ) (n : ℕ) (within : n ≤ limit.content) (ps qs : Parts)
-    (header : IsOfParts {X = ℕ} (λ n. n) (header_under limit.header) (Ok (Some n)) ps) where
+    (header : IsOfHeader {X = ℕ} (λ n. n) (header_under limit.header) (Ok (Some n)) ps) where
   pub told_content : (x : X) → IsOfParts view (body_of Ok n) (Ok (Some x)) qs → IsOfParts view (frame_of Ok limit)
       (Ok (Some x)) (ps ++ qs)
   told_content x body = λ rest may.
       subst (λ text. Answers view (Ok (Some x)) (Some rest) (frame_of Ok limit text)) (sym (joined ps qs rest))
-      (frame_answered Ok limit view (Some (concat ps ++ (concat qs ++ rest))) (Some (concat qs ++ rest)) (Some rest) n
-      (view x) (Ok x) within (header (concat qs ++ rest) tt) (body rest tt) refl)
+      (frame_answered Ok limit (concat ps ++ (concat qs ++ rest)) (concat qs ++ rest) n (header (concat qs ++ rest) tt)
+      view rest (view x) (Ok x) within (body rest tt) refl)
 
   pub told_content_fault : (fault : ReadFault) → IsOfParts view (body_of Ok n) (Err fault) qs
       → IsOfParts view (frame_of Ok limit) (Err fault) (ps ++ qs)
   told_content_fault fault body = λ rest may.
       subst (λ text. Answers view (Err fault) (Some rest) (frame_of Ok limit text)) (sym (joined ps qs rest))
-      (content_refused Ok limit view view fault (Some (concat ps ++ (concat qs ++ rest))) (Some (concat qs ++ rest))
-      (Some rest) n within (header (concat qs ++ rest) tt)
-      (body rest (λ is. may (end_of_last ps qs is))))
+      (content_refused Ok limit (concat ps ++ (concat qs ++ rest)) (concat qs ++ rest) n (header (concat qs ++ rest) tt)
+      view view fault rest within (body rest (λ is. may (end_of_last ps qs is))))
 
 pub Told-trans : (P Q R : Parts → Type 0) (t u v : Parts) (a b c : Option (List ℕ)) → ((ps qs : Parts) → P ps → Q qs
     → R (ps ++ qs)) → Told P t u a b → Told Q u v b c → Told R t v a c

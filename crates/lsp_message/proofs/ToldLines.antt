@@ -17,11 +17,11 @@ use Rattle.std.proofs.lemmas.List.Elements.{All-append}
 use Rattle.std.proofs.lemmas.List.Folds.{concat-append}
 use Rattle.memchr.specs.Find.{IsFirstByte, is_byte}
 use Rattle.lsp_message.specs.HeaderPart.{header_line, header_text}
-use Rattle.lsp_message.specs.Gathering.{IsFromOutside, EndsLine}
+use Rattle.lsp_message.specs.Gathering.{IsFromOutside}
 use Rattle.lsp_message.specs.ReadingSteps.{AnswersHeader, first_line}
-use Rattle.lsp_message.specs.Told.{Parts, shows_end, Told, MayFollow}
+use Rattle.lsp_message.specs.Told.{Parts, shows_end, Told}
 use Rattle.lsp_message.specs.ToldSteps.{HasNoFeed, EndsAtFeed, AreLine, GathersSome, GathersLine, ReadsLine}
-use Rattle.lsp_message.specs.ToldSteps.{ReadsInPlace}
+use Rattle.lsp_message.specs.ToldSteps.{IsOfHeader, ReadsInPlace}
 use Rattle.lsp_message.specs.declared.frame.ReadFault.{ReadFault}
 use Rattle.lsp_message.specs.declared.frame.ReadFault.TheVariants.{LineNotText, LineEnd, Input, Memory}
 use Rattle.lsp_message.specs.declared.frame.header.HeaderLine.{HeaderLine}
@@ -156,7 +156,7 @@ pub gathers_nothing : {P Q : Type 0} (old : List ℕ) (kind : ErrorKind) (r : Re
     → (P × (r ≡ Ok false)) ⊎ (Q × (r ≡ Err (Input kind))) → GathersSome r old old []
 gathers_nothing old kind r came = ⊎_elim
     (λ again. subst (λ r. GathersSome r old old []) (sym again.1) (sym (append-nil old), no_feed_none))
-    (λ failed. subst (λ r. GathersSome r old old []) (sym failed.1) no_feed_none)
+    (λ failed. subst (λ r. GathersSome r old old []) (sym failed.1) (tt, no_feed_none))
     came
 
 -- ---- a line
@@ -177,8 +177,10 @@ gathers_more (Ok false) x y z ps qs first second = (
       (sym (concat-append ps qs)),
   subst HasNoFeed (sym (concat-append ps qs)) (no_feed-append _ _ first.1 second.1),
 )
-gathers_more (Err fault) x y z ps qs first second = subst HasNoFeed (sym (concat-append ps qs)) (no_feed-append _ _
-    first.1 second)
+gathers_more (Err fault) x y z ps qs first second = (
+  second.0,
+  subst HasNoFeed (sym (concat-append ps qs)) (no_feed-append _ _ first.1 second.1),
+)
 
 pub told_more : (r : Result Bool ReadFault) (x y z : List ℕ) (t u v : Parts) (a b c : Option (List ℕ))
     → Told (GathersSome (Ok false) x y) t u a b → Told (GathersSome r y z) u v b c
@@ -203,11 +205,11 @@ gathered_parts old new done t u a b none told = (
   ),
 )
 
-pub line_failed : (fault : ReadFault) (parts : Parts) → IsFromOutside fault → HasNoFeed (concat parts)
+pub line_failed : (fault : ReadFault) (parts : Parts) → IsFromOutside fault × HasNoFeed (concat parts)
     → ReadsLine (Err fault) parts
-line_failed (Input kind) parts outside none = none
-line_failed Memory parts outside none = none
-line_failed fault parts outside none = absurd outside
+line_failed (Input kind) parts failed = failed.1
+line_failed Memory parts failed = failed.1
+line_failed fault parts failed = absurd failed.0
 
 empty : (l : List ℕ) → length l ≡ 0 → l ≡ []
 empty [] none = refl
@@ -331,36 +333,26 @@ told_after_cut r t u v a b c first second = (
 
 -- ---- the line that a text begins with, whatever follows the parts
 
-ends_line : (parts : Parts) (rest : List ℕ) → (take_through 10 (concat parts ++ rest) ≡ concat parts)
-    × (drop_through 10 (concat parts ++ rest) ≡ rest)
-    → EndsLine [] (Some (concat parts ++ rest)) (concat parts) (Some rest)
-ends_line parts rest through = (sym through.0, ap Some (sym through.1))
-
 -- a failure within the line
-pub line_broken : (kind : ErrorKind) (parts : Parts) (rest : List ℕ) → HasNoFeed (concat parts)
-    → AnswersHeader (λ line. line) (Err (Input kind)) (Some rest) (first_line (concat parts ++ rest))
-line_broken kind parts rest none =
-    line_stops (Input kind) (Some (concat parts ++ rest)) (Some rest) tt (sym (drop_through-append 10 (concat parts)
-    rest none)) (λ is. absurd (cc (is)))
+line_broken : (fault : ReadFault) (parts : Parts) (rest : List ℕ) → IsFromOutside fault → HasNoFeed (concat parts)
+    → AnswersHeader (λ line. line) (Err fault) (Some rest) (first_line (concat parts ++ rest))
+line_broken fault parts rest outside none = line_stops fault (concat parts ++ rest) rest outside
+    (sym (drop_through-append 10 (concat parts) rest none))
 
-pub line_ended : (parts : Parts) (rest : List ℕ) → ReadsLine (Ok None) parts → MayFollow {X = HeaderLine} (Ok None)
-    parts rest
-    → AnswersHeader (λ line. line) (Ok None) (Some rest) (first_line (concat parts ++ rest))
-line_ended parts rest line may =
+pub line_answers : (r : Result (Option HeaderLine) ReadFault) (parts : Parts) → ReadsLine r parts
+    → IsOfHeader (λ line. line) first_line r parts
+line_answers (Ok None) parts line = λ rest may.
     subst (λ l. AnswersHeader {X = HeaderLine} (λ line. line) (Ok None) (Some rest) (first_line (l ++ rest)))
     (sym line.0)
     (subst (λ r. AnswersHeader {X = HeaderLine} (λ line. line) (Ok None) (Some r) (first_line r)) (sym (may line.1))
     (refl, refl))
-
-pub line_found : (line : HeaderLine) (parts : Parts) (rest : List ℕ) → ReadsLine (Ok (Some line)) parts
-    → AnswersHeader (λ line. line) (Ok (Some line)) (Some rest) (first_line (concat parts ++ rest))
-line_found line parts rest reads =
-    line_read (Some (concat parts ++ rest)) (Some rest) (concat parts) (Ok line) (ends_line parts rest
-    (feed_through (concat parts) rest reads.1)) (feed_some _ reads.1) (sym reads.0)
-
-pub line_faulty : (fault : ReadFault) (parts : Parts) (rest : List ℕ) → header_line (concat parts) ≡ Err fault
-    → concat parts ≢ [] → AreLine parts → (shows_end parts ≡ true → rest ≡ [])
-    → AnswersHeader (λ line. line) (Err fault) (Some rest) (first_line (concat parts ++ rest))
-line_faulty fault parts rest is some line may =
-    line_read (Some (concat parts ++ rest)) (Some rest) (concat parts) (Err fault) (ends_line parts rest
-    (line_through parts rest line may)) (λ none. some (empty _ none)) (sym is)
+line_answers (Ok (Some line)) parts reads = λ rest may.
+    let through = feed_through (concat parts) rest reads.1 in
+    line_read (concat parts ++ rest) (concat parts) rest (Ok line) through.0 through.1 (feed_some _ reads.1)
+    (sym reads.0)
+line_answers (Err (Input kind)) parts none = λ rest may. line_broken (Input kind) parts rest tt none
+line_answers (Err Memory) parts none = λ rest may. line_broken Memory parts rest tt none
+line_answers (Err fault) parts line = λ rest may.
+    let through = line_through parts rest line.2 may in
+    line_read (concat parts ++ rest) (concat parts) rest (Err fault) through.0 through.1 (λ none. line.1
+    (empty _ none)) (sym line.0)

@@ -1,11 +1,10 @@
 -- Words of the private clauses on reading.
 use Rattle.std.specs.Prelude.{◌≡◌, ℕ, List, [], ◌∷◌, Option, Some, None, option_map, Result, Ok, Err}
 use Rattle.std.specs.Io.BufRead.{take_through, drop_through}
+use Rattle.lsp_message.specs.Gathering.{LeavesSome}
 use Rattle.lsp_message.specs.HeaderPart.{header_line}
 use Rattle.lsp_message.specs.Reading.{Reading, found, StopsWithin, StopsBefore}
 use Rattle.lsp_message.specs.declared.frame.header.HeaderLine.{HeaderLine}
-use Rattle.lsp_message.specs.declared.frame.place.InPlace.{InPlace}
-use Rattle.lsp_message.specs.declared.frame.place.InPlace.TheVariants.{Whole, Cut, AtEnd}
 use Rattle.lsp_message.specs.declared.frame.ReadFault.{ReadFault}
 use Rattle.lsp_message.specs.declared.frame.ReadFault.TheVariants.{Input, Memory}
 
@@ -19,26 +18,17 @@ first_line (byte ∷ bytes) =
           drop_through 10 (byte ∷ bytes);
     }
 
--- What was answered to a header line, or to the header part, and what is left unread. If memory ran out, a byte of it
--- at least was not taken.
+-- What was answered to a header line, or to the header part, and what is left unread. If memory ran out, and bytes are
+-- left, a byte of it at least was not taken.
 abbrev pub AnswersHeader : {X A : Type 0} → (X → A) → Result (Option X) ReadFault → Option (List ℕ)
     → Reading A → Type 0
 AnswersHeader view (Ok answer) left reading = (reading.outcome ≡ Ok (option_map view answer))
     × (left ≡ Some reading.rest)
 AnswersHeader view (Err (Input kind)) left reading = StopsWithin left reading
-AnswersHeader view (Err Memory) left reading = StopsBefore left reading
+AnswersHeader view (Err Memory) left reading = StopsWithin left reading
+    × (LeavesSome left → StopsBefore left reading)
 AnswersHeader view (Err fault) left reading = (reading.outcome ≡ Err fault)
     × (left ≡ Some reading.rest)
-
--- A line that the reader shows whole is answered. One that is cut is left with all the bytes, and at the end of the
--- input there is none.
-abbrev pub AnswersInPlace : Result InPlace ReadFault → Option (List ℕ) → List ℕ → Type 0
-AnswersInPlace (Ok Cut) left text = left ≡ Some text
-AnswersInPlace (Ok AtEnd) left text = AnswersHeader (λ line. line) (Ok None) left (first_line text)
-AnswersInPlace (Ok (Whole line)) left text =
-    AnswersHeader (λ line. line) (Ok (Some line)) left (first_line text)
-AnswersInPlace (Err fault) left text =
-    AnswersHeader (λ line. line) (Err fault) left (first_line text)
 
 -- what was made of a content part is what it means, unless memory ran out
 abbrev pub Decodes : {X M : Type 0} → (X → M) → Result X ReadFault → Result M ReadFault → Type 0

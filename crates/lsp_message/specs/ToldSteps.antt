@@ -4,8 +4,11 @@ use Rattle.std.specs.Prelude.{◌≡◌, ◌≢◌, ◌⊎◌, ℕ, ◌+◌, tru
 use Rattle.std.specs.Prelude.{None, Result, Ok, Err}
 use Rattle.std.specs.declared.io.ErrorKind.TheVariants.{Other}
 use Rattle.lsp_message.specs.Failures.{ReaderFails}
+use Rattle.lsp_message.specs.Gathering.{IsFromOutside}
 use Rattle.lsp_message.specs.HeaderPart.{header_line}
-use Rattle.lsp_message.specs.Told.{Parts, shows_end}
+use Rattle.lsp_message.specs.Reading.{Reading}
+use Rattle.lsp_message.specs.ReadingSteps.{AnswersHeader}
+use Rattle.lsp_message.specs.Told.{Parts, shows_end, MayFollow}
 use Rattle.lsp_message.specs.declared.frame.byte_trace.ByteTrace.{ByteTrace}
 use Rattle.lsp_message.specs.declared.frame.header.HeaderLine.{HeaderLine}
 use Rattle.lsp_message.specs.declared.frame.place.InPlace.{InPlace}
@@ -42,12 +45,12 @@ AreLine parts = EndsAtFeed (concat parts) ⊎ (HasNoFeed (concat parts) × (show
 abbrev pub GathersSome : Result Bool ReadFault → List ℕ → List ℕ → Parts → Type 0
 GathersSome (Ok false) old new parts = (new ≡ old ++ concat parts) × HasNoFeed (concat parts)
 GathersSome (Ok true) old new parts = (new ≡ old ++ concat parts) × AreLine parts
-GathersSome (Err fault) old new parts = HasNoFeed (concat parts)
+GathersSome (Err fault) old new parts = IsFromOutside fault × HasNoFeed (concat parts)
 
 -- what was gathered of a line
 abbrev pub GathersLine : Result (Unit {0}) ReadFault → List ℕ → List ℕ → Parts → Type 0
 GathersLine (Ok done) old new parts = (new ≡ old ++ concat parts) × AreLine parts
-GathersLine (Err fault) old new parts = HasNoFeed (concat parts)
+GathersLine (Err fault) old new parts = IsFromOutside fault × HasNoFeed (concat parts)
 
 -- a line that is bad, of this fault
 abbrev pub AreBadLine : ReadFault → Parts → Type 0
@@ -69,6 +72,12 @@ ReadsInPlace (Ok Cut) parts = concat parts ≡ []
 ReadsInPlace (Ok AtEnd) parts = ReadsLine (Ok None) parts
 ReadsInPlace (Ok (Whole line)) parts = ReadsLine (Ok (Some line)) parts
 ReadsInPlace (Err fault) parts = ReadsLine (Err fault) parts
+
+-- the answer is that of the header part, or of the line, that the parts are, whatever follows them
+abbrev pub IsOfHeader : {X A : Type 0} → (X → A) → (List ℕ → Reading A) → Result (Option X) ReadFault
+    → Parts → Type 0
+IsOfHeader view reading result parts = (rest : List ℕ) → MayFollow result parts rest
+    → AnswersHeader view result (Some rest) (reading (concat parts ++ rest))
 
 -- a part of a content part, with the end of the input if there is none
 abbrev pub TakesPart : Result Bool ReadFault → List ℕ → List ℕ → Parts → Type 0

@@ -8,7 +8,8 @@ use Rattle.std.proofs.lemmas.List.Folds.{concat-append}
 use Rattle.std.specs.Io.KnownBytes.{Appends, Keeps}
 use Rattle.std.specs.List.{concat}
 use Rattle.std.specs.Result.{result_err}
-use Rattle.lsp_message.proofs.Told.{end_of_last, joined, Takes-none, Takes-trans}
+use Rattle.lsp_message.proofs.Told.{end_of_last, joined, may_follow, of_known as known_of_parts, Takes-none}
+use Rattle.lsp_message.proofs.Told.{Takes-trans}
 use Rattle.lsp_message.specs.Message.{Message}
 use Rattle.lsp_message.specs.Reading.{Reading, Answers}
 use Rattle.lsp_message.specs.Told.{Parts, shows_end, Takes, Told, IsOfParts, MayFollow, Given, WritesText}
@@ -74,22 +75,13 @@ module _ {X A : Type 0} (view : X → A) (reading : List ℕ → Reading A) (t u
 
   pub told_last : (r : Result (Option X) ReadFault) → Told (IsOfParts view reading r) t u a b → (rest : List ℕ)
       → (shows_end u ≡ true → rest ≡ []) → At r rest
-  told_last r told rest ends = at_parts r told rest (follows r)
-    where
-      shown : shows_end told.0 ≡ true → rest ≡ []
-      shown is = ends (ap shows_end told.1.added ∙ end_of_last t told.0 is)
-
-      follows : (r : Result (Option X) ReadFault) → MayFollow r told.0 rest
-      follows (Ok (Some x)) = tt
-      follows (Ok None) = shown
-      follows (Err fault) = shown
+  told_last r told rest ends = at_parts r told rest (may_follow r told.0 rest (λ is. ends
+      (ap shows_end told.1.added ∙ end_of_last t told.0 is)))
 
 -- If the bytes are known, what holds of each text that begins with what was taken holds of them.
 pub of_known : (known : Option (List ℕ)) (taken : Parts) (F : List ℕ → Type 0) → OfTaken taken F → TakenFrom known taken
     → IfSome known F
-of_known None taken F of from = tt
-of_known (Some text) taken F of (None, takes) = absurd takes.consumed
-of_known (Some text) taken F of (Some left, takes) = subst F (sym takes.consumed) (of left takes.at_end)
+of_known known taken F of from = known_of_parts (λ text left. F text) taken [] taken known from.0 from.1 of
 
 -- ---- what was given
 pub gives_nothing : (t : Parts) (a : Option (List ℕ)) → GivesMore t t a a

@@ -1,11 +1,10 @@
 // The content part, taken from a reader.
-ghost use Rattle.std.specs.Prelude.{◌≡◌, ◌+◌, ◌<◌, ◌≤◌, length, true, false, Ok, Err, Some, IfSome, IfOk, IfErr, OnSome, vec_len, vec_capacity};
+ghost use Rattle.std.specs.Prelude.{◌≡◌, ◌+◌, ◌<◌, ◌≤◌, true, false, Ok, Err, IfErr, vec_len, vec_capacity};
 ghost use Rattle.std.specs.Result.{result_err};
-ghost use Rattle.std.specs.Io.KnownBytes.{IsAtEnd};
 ghost use Rattle.lsp_message.specs.Failures.{ReaderFails};
 ghost use Rattle.lsp_message.specs.Frame.{body_of};
-ghost use Rattle.lsp_message.specs.Reading.{Answers, found};
-ghost use Rattle.lsp_message.specs.Gathering.{TakesFront, TakesInto, IsFromReader};
+ghost use Rattle.lsp_message.specs.Reading.{found};
+ghost use Rattle.lsp_message.specs.Gathering.{IsFromReader};
 ghost use Rattle.lsp_message.specs.Told.{Told, IsOfParts};
 ghost use Rattle.lsp_message.specs.ToldSteps.{noted, TakesPart};
 
@@ -21,10 +20,6 @@ pub(crate) fn read_body<R: BufRead>(
     count: u64,
     taken: &mut ByteTrace,
 ) -> Result<Vec<u8>, ReadFault>
-    ensures exact { IfSome (R.remaining reader.old) (λ text.
-        Answers (λ body. body.items) (found result) (R.remaining reader.new)
-        (body_of Ok count text)) }
-    ensures begun { TakesFront (R.remaining reader.old) (R.remaining reader.new) }
     ensures told { Told (IsOfParts (λ body. body.items) (body_of Ok count) (found result))
         taken.old.parts taken.new.parts (R.remaining reader.old) (R.remaining reader.new) }
     ensures unread { result ≡ Err ReadFault.Memory → reader.new ≡ reader.old }
@@ -53,14 +48,10 @@ fn take_part<R: BufRead>(
 ) -> Result<bool, ReadFault>
     requires some { 0 < missing }
     requires room { vec_len body.old + missing ≤ vec_capacity body.old }
-    ensures part { TakesInto body.old.items (R.remaining reader.old) body.new.items
-        (R.remaining reader.new) }
     ensures told { Told (TakesPart result body.old.items body.new.items) taken.old.parts
         taken.new.parts (R.remaining reader.old) (R.remaining reader.new) }
     ensures fits { vec_len body.new ≤ vec_len body.old + missing }
     ensures room_kept { vec_capacity body.old ≤ vec_capacity body.new }
-    ensures end { result ≡ Ok false
-        → OnSome (R.remaining reader.old) (IsAtEnd (R.remaining reader.new)) }
     ensures short { result ≡ Ok false → vec_len body.new ≡ vec_len body.old }
     ensures fault { IfErr result IsFromReader }
     ensures failed { ReaderFails (result_err result) taken.old taken.new }

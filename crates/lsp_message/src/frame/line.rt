@@ -1,7 +1,7 @@
 // The lines of the header part, gathered from a reader.
-ghost use Rattle.std.specs.Prelude.{◌≡◌, ◌<◌, true, false, Ok, Err, OnOk, OnErr, OnSome, IfErr};
+ghost use Rattle.std.specs.Prelude.{◌≡◌, ◌<◌, false, Ok, Err, OnSome};
 ghost use Rattle.std.specs.Result.{result_err};
-ghost use Rattle.lsp_message.specs.Gathering.{TakesFront, IsFromOutside, KeepsLine, EndsLine, LeavesSome, StaysInLine};
+ghost use Rattle.lsp_message.specs.Gathering.{LeavesSome};
 ghost use Rattle.lsp_message.specs.Told.{Told};
 ghost use Rattle.lsp_message.specs.ToldSteps.{noted, FailsInRoom, GathersLine, GathersSome, Spends};
 
@@ -17,11 +17,6 @@ pub(crate) fn gather_line<R: BufRead>(
     room: &mut u64,
     taken: &mut ByteTrace,
 ) -> Result<(), ReadFault>
-    ensures line { OnOk result
-        (EndsLine line.old.items (R.remaining reader.old) line.new.items (R.remaining reader.new)) }
-    ensures stays { OnErr result (StaysInLine (R.remaining reader.old) (R.remaining reader.new)) }
-    ensures begun { TakesFront (R.remaining reader.old) (R.remaining reader.new) }
-    ensures fault { IfErr result IsFromOutside }
     ensures memory { result ≡ Err ReadFault.Memory
         → OnSome (R.remaining reader.old) (LeavesSome (R.remaining reader.new)) }
     ensures told { Told (GathersLine result line.old.items line.new.items) taken.old.parts taken.new.parts
@@ -45,14 +40,6 @@ fn gather_some<R: BufRead>(
     room: &mut u64,
     taken: &mut ByteTrace,
 ) -> Result<bool, ReadFault>
-    ensures more { result ≡ Ok false
-        → KeepsLine line.old.items (R.remaining reader.old) line.new.items
-        (R.remaining reader.new) }
-    ensures end { result ≡ Ok true
-        → EndsLine line.old.items (R.remaining reader.old) line.new.items (R.remaining reader.new) }
-    ensures stays { OnErr result (StaysInLine (R.remaining reader.old) (R.remaining reader.new)) }
-    ensures begun { TakesFront (R.remaining reader.old) (R.remaining reader.new) }
-    ensures fault { IfErr result IsFromOutside }
     ensures memory { result ≡ Err ReadFault.Memory
         → OnSome (R.remaining reader.old) (LeavesSome (R.remaining reader.new)) }
     ensures told { Told (GathersSome result line.old.items line.new.items) taken.old.parts taken.new.parts

@@ -1,9 +1,7 @@
 // A line of the header part that is tested where the reader shows it.
-ghost use Rattle.std.specs.Prelude.{IfSome};
+ghost use Rattle.std.specs.Prelude.{◌≢◌, Err};
 ghost use Rattle.std.specs.Result.{result_err};
-ghost use Rattle.lsp_message.specs.ReadingSteps.{AnswersInPlace};
 ghost use Rattle.lsp_message.specs.Failures.{ReaderFails};
-ghost use Rattle.lsp_message.specs.Gathering.{TakesFront};
 ghost use Rattle.lsp_message.specs.Told.{Told};
 ghost use Rattle.lsp_message.specs.ToldSteps.{ReadsInPlace, Spends};
 
@@ -30,9 +28,7 @@ pub(crate) fn line_in_place<R: BufRead>(
     room: &mut u64,
     taken: &mut ByteTrace,
 ) -> Result<InPlace, ReadFault>
-    ensures exact { IfSome (R.remaining reader.old)
-        (AnswersInPlace result (R.remaining reader.new)) }
-    ensures begun { TakesFront (R.remaining reader.old) (R.remaining reader.new) }
+    ensures memory { result ≢ Err ReadFault.Memory }
     ensures told { Told (ReadsInPlace result) taken.old.parts taken.new.parts
         (R.remaining reader.old) (R.remaining reader.new) }
     ensures spent { Spends taken.old.parts taken.new.parts room.old room.new }

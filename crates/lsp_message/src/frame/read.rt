@@ -1,13 +1,12 @@
 // The header part, taken from a reader line by line.
-ghost use Rattle.std.specs.Prelude.{◌≡◌, Ok, Some, IfSome};
+ghost use Rattle.std.specs.Prelude.{◌≡◌, Ok, Err, Some, OnSome};
 ghost use Rattle.std.specs.Result.{result_err};
 ghost use Rattle.lsp_message.specs.Failures.{ReaderFails};
-ghost use Rattle.lsp_message.specs.Gathering.{TakesFront};
+ghost use Rattle.lsp_message.specs.Gathering.{LeavesSome};
 ghost use Rattle.lsp_message.specs.HeaderPart.{at_last_line, header_of};
 ghost use Rattle.lsp_message.specs.Limits.{header_under};
-ghost use Rattle.lsp_message.specs.ReadingSteps.{AnswersHeader, first_line};
-ghost use Rattle.lsp_message.specs.Told.{Told, IsOfParts};
-ghost use Rattle.lsp_message.specs.ToldSteps.{FailsInRoom, ReadsLine, Spends};
+ghost use Rattle.lsp_message.specs.Told.{Told};
+ghost use Rattle.lsp_message.specs.ToldSteps.{FailsInRoom, IsOfHeader, ReadsLine, Spends};
 
 use crate::frame::ReadFault;
 use crate::frame::byte_trace::ByteTrace;
@@ -25,10 +24,9 @@ pub(crate) fn read_header_within<R: BufRead>(
     bound: Option<u64>,
     taken: &mut ByteTrace,
 ) -> Result<Option<u64>, ReadFault>
-    ensures exact { IfSome (R.remaining reader.old) (λ text.
-        AnswersHeader (λ n. n) result (R.remaining reader.new) (header_under bound text)) }
-    ensures begun { TakesFront (R.remaining reader.old) (R.remaining reader.new) }
-    ensures told { Told (IsOfParts (λ n. n) (header_under bound) result) taken.old.parts
+    ensures memory { result ≡ Err ReadFault.Memory
+        → OnSome (R.remaining reader.old) (LeavesSome (R.remaining reader.new)) }
+    ensures told { Told (IsOfHeader (λ n. n) (header_under bound) result) taken.old.parts
         taken.new.parts (R.remaining reader.old) (R.remaining reader.new) }
     ensures failed { ReaderFails (result_err result) taken.old taken.new }
 {
@@ -49,10 +47,9 @@ fn read_bounded_header<R: BufRead>(
     most: u64,
     taken: &mut ByteTrace,
 ) -> Result<Option<u64>, ReadFault>
-    ensures exact { IfSome (R.remaining reader.old) (λ text.
-        AnswersHeader (λ n. n) result (R.remaining reader.new) (header_under (Some most) text)) }
-    ensures begun { TakesFront (R.remaining reader.old) (R.remaining reader.new) }
-    ensures told { Told (IsOfParts (λ n. n) (header_under (Some most)) result) taken.old.parts
+    ensures memory { result ≡ Err ReadFault.Memory
+        → OnSome (R.remaining reader.old) (LeavesSome (R.remaining reader.new)) }
+    ensures told { Told (IsOfHeader (λ n. n) (header_under (Some most)) result) taken.old.parts
         taken.new.parts (R.remaining reader.old) (R.remaining reader.new) }
     ensures failed { ReaderFails (result_err result) taken.old taken.new }
 {
@@ -73,10 +70,9 @@ fn read_header<R: BufRead>(
     room: &mut u64,
     taken: &mut ByteTrace,
 ) -> Result<Option<u64>, ReadFault>
-    ensures exact { IfSome (R.remaining reader.old) (λ text.
-        AnswersHeader (λ n. n) result (R.remaining reader.new) (header_of text)) }
-    ensures begun { TakesFront (R.remaining reader.old) (R.remaining reader.new) }
-    ensures told { Told (IsOfParts (λ n. n) header_of result) taken.old.parts taken.new.parts
+    ensures memory { result ≡ Err ReadFault.Memory
+        → OnSome (R.remaining reader.old) (LeavesSome (R.remaining reader.new)) }
+    ensures told { Told (IsOfHeader (λ n. n) header_of result) taken.old.parts taken.new.parts
         (R.remaining reader.old) (R.remaining reader.new) }
     ensures spent { Spends taken.old.parts taken.new.parts room.old room.new }
     ensures failed { FailsInRoom room.new (result_err result) taken.old taken.new }
@@ -115,9 +111,8 @@ fn read_line<R: BufRead>(
     room: &mut u64,
     taken: &mut ByteTrace,
 ) -> Result<Option<HeaderLine>, ReadFault>
-    ensures exact { IfSome (R.remaining reader.old) (λ text.
-        AnswersHeader (λ line. line) result (R.remaining reader.new) (first_line text)) }
-    ensures begun { TakesFront (R.remaining reader.old) (R.remaining reader.new) }
+    ensures memory { result ≡ Err ReadFault.Memory
+        → OnSome (R.remaining reader.old) (LeavesSome (R.remaining reader.new)) }
     ensures told { Told (ReadsLine result) taken.old.parts taken.new.parts
         (R.remaining reader.old) (R.remaining reader.new) }
     ensures spent { Spends taken.old.parts taken.new.parts room.old room.new }
@@ -137,9 +132,8 @@ fn gathered_line<R: BufRead>(
     room: &mut u64,
     taken: &mut ByteTrace,
 ) -> Result<Option<HeaderLine>, ReadFault>
-    ensures exact { IfSome (R.remaining reader.old) (λ text.
-        AnswersHeader (λ line. line) result (R.remaining reader.new) (first_line text)) }
-    ensures begun { TakesFront (R.remaining reader.old) (R.remaining reader.new) }
+    ensures memory { result ≡ Err ReadFault.Memory
+        → OnSome (R.remaining reader.old) (LeavesSome (R.remaining reader.new)) }
     ensures told { Told (ReadsLine result) taken.old.parts taken.new.parts
         (R.remaining reader.old) (R.remaining reader.new) }
     ensures spent { Spends taken.old.parts taken.new.parts room.old room.new }

@@ -1,10 +1,7 @@
-use Rattle.std.proofs.Common.{true, false, ◌<◌, List, Err, sym, ap, subst, ◌≡◌, ◌≤◌, length, ℕ, Vec, Global, [], ◌++◌}
+use Rattle.std.proofs.Common.{true, false, ◌<◌, List, Err, ap, ◌≡◌, ◌≤◌, length, ℕ, Vec, Global, []}
 use Rattle.std.proofs.Common.{◌-◌, ◌^◌, Ok, Some, None, arith}
 use Rattle.lsp_message.proofs.Failures.{fails_own, fails_after, gave_up}
-use Rattle.std.proofs.KnownBytes.{Consumes-nil, Consumes-trans}
 use Rattle.std.proofs.lemmas.Result.{err_from_is_err_and}
-use Rattle.lsp_message.proofs.Suffixes.{body_stops, body_whole, body_fails}
-use Rattle.std.specs.Io.KnownBytes.{Consumes}
 use Rattle.std.specs.declared.io.ErrorKind.TheVariants.{Other}
 use Rattle.lsp_message.specs.declared.frame.ReadFault.TheVariants.{Input}
 use Rattle.lsp_message.proofs.Told.{Takes-none}
@@ -12,53 +9,6 @@ use Rattle.lsp_message.proofs.ToldLines.{Told-map}
 use Rattle.lsp_message.proofs.ToldHeaders.{told_body, body_refused, body_is_whole, body_is_short, body_broken}
 use Rattle.std.proofs.KnownBytes.{Keeps-refl}
 use Rattle.lsp_message.proofs.frame.body.read_body.Goals as goal
-
-pub returns-in_err-body-clause-exact : goal.returns-in_err-body-clause-exact
-returns-in_err-body-clause-exact g c =
-    let p = err_from_is_err_and c.from_residual.result c.from_residual.ensures.1 in
-    rw (p.1, p.2) (body_stops Ok c.args.count _ _ [] (Consumes-nil _) (omega arith))
-
-pub returns-then-missing-eq0-clause-exact : goal.returns-then-missing-eq0-clause-exact
-returns-then-missing-eq0-clause-exact g c =
-    let whole : length c.loop-look.body.items ≡ c.args.count = omega arith in
-    body_whole (λ body. body.items) c.loop-look.body c.args.count _ _ c.loop-look.invariant.taken whole
-
-pub returns-in_err-take_part-clause-exact : goal.returns-in_err-take_part-clause-exact
-returns-in_err-take_part-clause-exact g c =
-    let p = err_from_is_err_and c.from_residual-in_err-take_part.result c.from_residual-in_err-take_part.ensures.1 in
-    let part = c.in_err-take_part.ensures.part in
-    let taken = Consumes-trans _ _ _ _ _ c.loop-look.invariant.taken part.2 in
-    let within : length (c.loop-look.body.items ++ part.0) ≤ c.args.count = rw (← part.1) (omega arith) in
-    rw (p.1, p.2) (body_fails (λ (body : Vec ℕ Global). body.items) _ c.args.count _ _ _
-    c.in_err-take_part.ensures.fault taken within)
-
-pub returns-clause-exact : goal.returns-clause-exact
-returns-clause-exact g c =
-    let within : length c.loop-look.body.items ≤ c.args.count = omega arith in
-    body_stops Ok c.args.count _ _ _ c.loop-look.invariant.taken within
-
-pub returns-in_err-body-clause-begun : goal.returns-in_err-body-clause-begun
-returns-in_err-body-clause-begun g c = (_, Consumes-nil _)
-
-pub returns-then-missing-eq0-clause-begun : goal.returns-then-missing-eq0-clause-begun
-returns-then-missing-eq0-clause-begun g c = (_, c.loop-look.invariant.taken)
-
-pub returns-in_err-take_part-clause-begun : goal.returns-in_err-take_part-clause-begun
-returns-in_err-take_part-clause-begun g c = (
-  _,
-  Consumes-trans _ _ _ _ _ c.loop-look.invariant.taken
-      c.in_err-take_part.ensures.part.2,
-)
-
-pub returns-then-not-branch-clause-begun : goal.returns-then-not-branch-clause-begun
-returns-then-not-branch-clause-begun g c = (
-  _,
-  Consumes-trans _ _ _ _ _ c.loop-look.invariant.taken
-      c.in_ok-take_part.ensures.part.2,
-)
-
-pub returns-clause-begun : goal.returns-clause-begun
-returns-clause-begun g c = (_, c.loop-look.invariant.taken)
 
 abbrev items : Vec ℕ Global → List ℕ
 items body = body.items
@@ -108,10 +58,8 @@ returns-clause-told g c =
 
 pub loop-look-preserved : goal.loop-look-preserved
 loop-look-preserved g c =
-    let part = c.in_ok-take_part.ensures.part in
     let same : c.in_ok-take_part.field-0 ≡ true = cc in
     record {
-      taken = subst (Consumes _ _) (sym part.1) (Consumes-trans _ _ _ _ _ c.loop-look.invariant.taken part.2);
       within = omega (arith, c.take_part.ensures.fits);
       room = omega (arith, c.take_part.ensures.room_kept);
       told = told_body (Ok true) [] _ _ _ _ _ _ _ _ c.loop-look.invariant.told (rw (same) at
@@ -149,7 +97,6 @@ returns-clause-failed g c =
 
 pub loop-look-init : goal.loop-look-init
 loop-look-init g c = record {
-  taken = subst (Consumes _ _) (sym c.in_ok-body.ensures.items) (Consumes-nil _);
   within = omega (arith, c.in_ok-body.ensures.len);
   room = omega (arith, c.in_ok-body.ensures.capacity);
   told = ([], Takes-none _ _ _ (Keeps-refl _), c.in_ok-body.ensures.items);

@@ -1,6 +1,5 @@
 use Rattle.std.proofs.Common.{◌≡◌, ◌+◌, ◌≤◌, [], ◌++◌, vec_len, vec_capacity, None}
 use Rattle.std.specs.List.{concat}
-use Rattle.std.specs.Io.KnownBytes.{Consumes}
 use Rattle.lsp_message.specs.Failures.{ReaderFails}
 use Rattle.lsp_message.specs.Told.{Told}
 use Rattle.lsp_message.specs.ToldSteps.{noted}
@@ -8,7 +7,6 @@ use Rattle.lsp_message.proofs.frame.body.read_body.Given as goal
 
 abbrev pub invariant-loop-look : goal.invariant-loop-look
 invariant-loop-look g l = record {
-  taken : Consumes (g.R.Read.remaining l.initial.reader) (g.R.Read.remaining l.reader) l.body.items;
   within : vec_len l.body ≤ l.size;
   room : l.size ≤ vec_capacity l.body;
   told : Told (λ parts. l.body.items ≡ [] ++ concat parts) l.initial.taken.parts l.taken.parts (g.R.Read.remaining

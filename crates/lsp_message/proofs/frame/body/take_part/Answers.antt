@@ -27,28 +27,11 @@ added g c = omega (
   length-take c.min-count.result c.in-Ok.shown.now,
 )
 
-pub returns-clause-part : goal.returns-clause-part
-returns-clause-part g c =
-    let kept = kept_shown _ _ _ _ _ c.in-Ok.is c.fill_buf.follows.holds-at-none in (
-      _,
-      appended g c,
-      (Consumes_shown _ _ _ _ _ c.min-count.result (within g c) c.in-Ok.ensures.front
-          c.in-Ok.ensures.end kept.0 kept.1 c.consume.ensures.bytes).0,
-    )
-
 pub returns-clause-fits : goal.returns-clause-fits
 returns-clause-fits g c = omega (arith, added g c, c.min-count.ensures)
 
 pub returns-clause-room_kept : goal.returns-clause-room_kept
 returns-clause-room_kept g c = omega (arith, c.extend_from_slice.ensures.capacity)
-
-pub returns-clause-end : goal.returns-clause-end
-returns-clause-end g c = λ is.
-    let kept = kept_shown _ _ _ _ _ c.in-Ok.is c.fill_buf.follows.holds-at-none in
-    let none : c.min-count.result ≡ 0 = eqb-true _ _ (not-false _ (cc)) in
-    let shown : length c.in-Ok.shown.now ≡ 0 = omega (arith, c.min-count.ensures, c.requires.some) in
-    (Consumes_shown _ _ _ _ _ c.min-count.result (within g c) c.in-Ok.ensures.front c.in-Ok.ensures.end kept.0 kept.1
-    c.consume.ensures.bytes).1 shown
 
 pub returns-clause-short : goal.returns-clause-short
 returns-clause-short g c = λ is.

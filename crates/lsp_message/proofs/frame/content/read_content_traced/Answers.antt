@@ -1,12 +1,10 @@
-use Rattle.std.proofs.Common.{◌≡◌, ℕ, List, Vec, Global, Ok, Err, Some, None, IfSome, ap, refl, subst, ◌∙◌}
+use Rattle.std.proofs.Common.{◌≡◌, ℕ, List, Vec, Global, Ok, Err, Some, None, ap, ◌∙◌}
 use Rattle.std.proofs.lemmas.Result.{err_from_is_err_and}
-use Rattle.lsp_message.specs.ReadingSteps.{AnswersHeader}
-use Rattle.lsp_message.specs.Limits.{header_under}
-use Rattle.lsp_message.specs.declared.frame.ReadFault.TheVariants.{Memory}
-use Rattle.lsp_message.proofs.Contents.{header_refused, content_too_long, content_refused, frame_answered}
+use Rattle.lsp_message.specs.Frame.{content_within, header_under}
+use Rattle.lsp_message.specs.declared.frame.ReadFault.TheVariants.{Memory, TooLong}
 use Rattle.lsp_message.proofs.Contents.{memory_in_header, memory_after_header}
 use Rattle.lsp_message.proofs.Failures.{fails_after}
-use Rattle.lsp_message.proofs.Takings.{TakesFront-trans}
+use Rattle.lsp_message.proofs.Told.{told_known, told_header}
 use Rattle.lsp_message.proofs.ToldLines.{Told-map}
 use Rattle.lsp_message.proofs.ToldHeaders.{Told-trans, told_refused, told_none, told_long, told_content}
 use Rattle.lsp_message.proofs.ToldHeaders.{told_content_fault}
@@ -15,62 +13,24 @@ use Rattle.lsp_message.proofs.frame.content.read_content_traced.Goals as goal
 abbrev items : Vec ℕ Global → List ℕ
 items content = content.items
 
-pub returns-in_err-read_body-clause-begun : goal.returns-in_err-read_body-clause-begun
-returns-in_err-read_body-clause-begun g c = TakesFront-trans _ _ _ c.read_header_within.ensures.begun
-    c.read_body.ensures.begun
-
-pub returns-clause-begun : goal.returns-clause-begun
-returns-clause-begun g c = TakesFront-trans _ _ _ c.read_header_within.ensures.begun c.read_body.ensures.begun
-
-pub returns-clause-exact : goal.returns-clause-exact
-returns-clause-exact g c =
-    let header = subst (λ r. IfSome (g.R.Read.remaining c.args.reader.now) (λ text. AnswersHeader (λ n. n) r
-    (g.R.Read.remaining c.read_header_within.new.reader) (header_under c.args.limits.header text)))
-    (c.in_ok-count.was ∙ ap Ok c.in-Some.is) c.read_header_within.ensures.exact in
-    frame_answered Ok c.args.limits items _ _ _ _ c.in_ok-read_body.field-0.items (Ok c.in_ok-read_body.field-0)
-    c.if-count-limit.false header c.in_ok-read_body.ensures.exact refl
-
-pub returns-in_err-count-clause-exact : goal.returns-in_err-count-clause-exact
-returns-in_err-count-clause-exact g c =
-    let p = err_from_is_err_and c.from_residual.result c.from_residual.ensures.1 in
-    rw (p.1, p.2) (header_refused Ok c.args.limits items _ _ _ c.in_err-count.ensures.exact)
-
 pub returns-in_err-count-clause-memory : goal.returns-in_err-count-clause-memory
 returns-in_err-count-clause-memory g c = λ is.
     let p = err_from_is_err_and c.from_residual.result c.from_residual.ensures.1 in
-    memory_in_header c.args.limits c.in_err-count.field-0.0 _ _ c.in_err-count.ensures.exact (cc (p.1, p.2, is))
-
-pub returns-in_err-read_body-clause-exact : goal.returns-in_err-read_body-clause-exact
-returns-in_err-read_body-clause-exact g c =
-    let header = subst (λ r. IfSome (g.R.Read.remaining c.args.reader.now) (λ text. AnswersHeader (λ n. n) r
-    (g.R.Read.remaining c.read_header_within.new.reader) (header_under c.args.limits.header text)))
-    (c.in_ok-count.was ∙ ap Ok c.in-Some.is) c.read_header_within.ensures.exact in
-    let p = err_from_is_err_and c.from_residual-in_err-read_body.result c.from_residual-in_err-read_body.ensures.1 in
-    rw (p.1, p.2) (content_refused Ok c.args.limits items items _ _ _ _ _ c.if-count-limit.false header
-    c.in_err-read_body.ensures.exact)
+    let fault : c.in_err-count.field-0.0 ≡ Memory = cc (p.1, p.2, is) in
+    memory_in_header c.args.limits c.in_err-count.field-0.0 _ _ (told_header (λ n. n)
+    (header_under c.args.limits.header) (Err c.in_err-count.field-0.0) _ _ _ _ c.in_err-count.ensures.told)
+    (c.read_header_within.ensures.memory (c.in_err-count.was ∙ ap Err fault)) fault
 
 pub returns-in_err-read_body-clause-memory : goal.returns-in_err-read_body-clause-memory
 returns-in_err-read_body-clause-memory g c = λ is.
-    let header = subst (λ r. IfSome (g.R.Read.remaining c.args.reader.now) (λ text. AnswersHeader (λ n. n) r
-    (g.R.Read.remaining c.read_header_within.new.reader) (header_under c.args.limits.header text)))
-    (c.in_ok-count.was ∙ ap Ok c.in-Some.is) c.read_header_within.ensures.exact in
+    let header = told_header (λ n. n) (header_under c.args.limits.header) (Ok (Some c.in-Some.count)) _ _ _ _ (rw (
+      c.in_ok-count.was,
+      c.in-Some.is,
+    ) at c.read_header_within.ensures.told) in
     let p = err_from_is_err_and c.from_residual-in_err-read_body.result c.from_residual-in_err-read_body.ensures.1 in
     let refused : c.read_body.result ≡ Err Memory = c.in_err-read_body.was ∙ ap Err (cc (p.1, p.2, is)) in
     memory_after_header c.args.limits _ _ _ _ c.if-count-limit.false header (ap g.R.Read.remaining
     (c.read_body.ensures.unread refused))
-
-pub returns-then-count-limit-clause-exact : goal.returns-then-count-limit-clause-exact
-returns-then-count-limit-clause-exact g c =
-    let header = subst (λ r. IfSome (g.R.Read.remaining c.args.reader.now) (λ text. AnswersHeader (λ n. n) r
-    (g.R.Read.remaining c.read_header_within.new.reader) (header_under c.args.limits.header text)))
-    (c.in_ok-count.was ∙ ap Ok c.in-Some.is) c.read_header_within.ensures.exact in
-    content_too_long Ok c.args.limits items _ _ _ c.if-count-limit.true header
-
-pub returns-in_err-count-clause-begun : goal.returns-in_err-count-clause-begun
-returns-in_err-count-clause-begun g c = c.read_header_within.ensures.begun
-
-pub returns-in-None-clause-begun : goal.returns-in-None-clause-begun
-returns-in-None-clause-begun g c = c.read_header_within.ensures.begun
 
 pub returns-in_err-count-clause-told : goal.returns-in_err-count-clause-told
 returns-in_err-count-clause-told g c =
@@ -123,3 +83,38 @@ returns-in_err-read_body-clause-failed g c =
 pub returns-clause-failed : goal.returns-clause-failed
 returns-clause-failed g c = fails_after None c.args.taken.now c.read_header_within.new.taken c.read_body.new.taken
     c.in_ok-count.ensures.failed c.in_ok-read_body.ensures.failed
+
+pub returns-in_err-count-clause-exact : goal.returns-in_err-count-clause-exact
+returns-in_err-count-clause-exact g c = told_known items (content_within c.args.limits) _ _ _ _ _
+    (returns-in_err-count-clause-told g c)
+
+pub returns-in_err-count-clause-begun : goal.returns-in_err-count-clause-begun
+returns-in_err-count-clause-begun g c = (_, (returns-in_err-count-clause-told g c).1.consumed)
+
+pub returns-in-None-clause-exact : goal.returns-in-None-clause-exact
+returns-in-None-clause-exact g c = told_known items (content_within c.args.limits) (Ok None) _ _ _ _
+    (returns-in-None-clause-told g c)
+
+pub returns-in-None-clause-begun : goal.returns-in-None-clause-begun
+returns-in-None-clause-begun g c = (_, (returns-in-None-clause-told g c).1.consumed)
+
+pub returns-then-count-limit-clause-exact : goal.returns-then-count-limit-clause-exact
+returns-then-count-limit-clause-exact g c = told_known items (content_within c.args.limits) (Err TooLong) _ _ _ _
+    (returns-then-count-limit-clause-told g c)
+
+pub returns-then-count-limit-clause-begun : goal.returns-then-count-limit-clause-begun
+returns-then-count-limit-clause-begun g c = (_, (returns-then-count-limit-clause-told g c).1.consumed)
+
+pub returns-in_err-read_body-clause-exact : goal.returns-in_err-read_body-clause-exact
+returns-in_err-read_body-clause-exact g c = told_known items (content_within c.args.limits) _ _ _ _ _
+    (returns-in_err-read_body-clause-told g c)
+
+pub returns-in_err-read_body-clause-begun : goal.returns-in_err-read_body-clause-begun
+returns-in_err-read_body-clause-begun g c = (_, (returns-in_err-read_body-clause-told g c).1.consumed)
+
+pub returns-clause-exact : goal.returns-clause-exact
+returns-clause-exact g c = told_known items (content_within c.args.limits) (Ok (Some
+    c.in_ok-read_body.field-0)) _ _ _ _ (returns-clause-told g c)
+
+pub returns-clause-begun : goal.returns-clause-begun
+returns-clause-begun g c = (_, (returns-clause-told g c).1.consumed)

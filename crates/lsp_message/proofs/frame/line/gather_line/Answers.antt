@@ -1,26 +1,14 @@
 use Rattle.std.proofs.Common.{◌≡◌, ◌-◌, ◌^◌, Ok, Err, true, false, ap, arith, append-nil, inl, [], Some, None, refl}
 use Rattle.std.proofs.Common.{sym, ◌∙◌}
 use Rattle.std.proofs.lemmas.Result.{err_from_is_err_and}
-use Rattle.lsp_message.proofs.Takings.{TakesFront-trans, KeepsLine-trans, KeepsLine-known, KeepsLine-stays}
-use Rattle.lsp_message.proofs.Takings.{KeepsLine-own, KeepsLine-ends, StaysInLine-same, OnErr-any}
-use Rattle.std.proofs.KnownBytes.{Consumes-nil, Keeps-refl}
+use Rattle.std.proofs.KnownBytes.{Keeps-refl}
 use Rattle.lsp_message.proofs.Failures.{fails_own, fails_after, room_after, room_left, gave_up}
-use Rattle.lsp_message.proofs.Told.{Takes-none}
+use Rattle.lsp_message.proofs.Told.{Takes-none, known_later}
 use Rattle.lsp_message.proofs.ToldLines.{no_feed_none, told_more}
 use Rattle.lsp_message.proofs.frame.line.gather_line.Goals as goal
 
-pub returns-in_err-gather_some-clause-begun : goal.returns-in_err-gather_some-clause-begun
-returns-in_err-gather_some-clause-begun g c = TakesFront-trans _ _ _ c.loop-look.invariant.begun
-    c.gather_some.ensures.begun
-
-pub returns-then-branch-clause-begun : goal.returns-then-branch-clause-begun
-returns-then-branch-clause-begun g c = TakesFront-trans _ _ _ c.loop-look.invariant.begun c.gather_some.ensures.begun
-
 pub loop-look-preserved : goal.loop-look-preserved
 loop-look-preserved g c = record {
-  line = KeepsLine-trans _ _ _ _ _ _ c.loop-look.invariant.line (c.in_ok-gather_some.ensures.more (ap Ok
-      c.if-branch.false));
-  begun = TakesFront-trans _ _ _ c.loop-look.invariant.begun c.gather_some.ensures.begun;
   told = told_more (Ok false) _ _ _ _ _ _ _ _ _ c.loop-look.invariant.told (rw (c.if-branch.false) at
       c.in_ok-gather_some.ensures.told);
   spent = c.gather_some.ensures.spent ∙ c.loop-look.invariant.spent;
@@ -32,23 +20,8 @@ loop-look-preserved g c = record {
 pub returns-in_err-gather_some-clause-memory : goal.returns-in_err-gather_some-clause-memory
 returns-in_err-gather_some-clause-memory g c = λ is.
     let p = err_from_is_err_and c.from_residual.result c.from_residual.ensures.1 in
-    KeepsLine-known _ _ _ _ _ c.loop-look.invariant.line (c.gather_some.ensures.memory (c.in_err-gather_some.was
+    known_later _ _ _ _ c.loop-look.invariant.told.1.consumed (c.gather_some.ensures.memory (c.in_err-gather_some.was
     ∙ ap Err (cc (p.1, p.2, is))))
-
-pub returns-clause-begun : goal.returns-clause-begun
-returns-clause-begun g c = c.loop-look.invariant.begun
-
-pub returns-in_err-gather_some-clause-stays : goal.returns-in_err-gather_some-clause-stays
-returns-in_err-gather_some-clause-stays g c = OnErr-any _ (KeepsLine-stays _ _ _ _ _ c.loop-look.invariant.line
-    c.in_err-gather_some.ensures.stays)
-
-pub returns-then-branch-clause-line : goal.returns-then-branch-clause-line
-returns-then-branch-clause-line g c = KeepsLine-ends _ _ _ _ _ _ c.loop-look.invariant.line
-    (c.in_ok-gather_some.ensures.end
-    (ap Ok c.if-branch.true))
-
-pub returns-clause-stays : goal.returns-clause-stays
-returns-clause-stays g c = KeepsLine-stays _ _ _ _ _ c.loop-look.invariant.line (StaysInLine-same _)
 
 pub returns-then-branch-clause-told : goal.returns-then-branch-clause-told
 returns-then-branch-clause-told g c = told_more (Ok true) _ _ _ _ _ _ _ _ _ c.loop-look.invariant.told (rw
@@ -58,11 +31,15 @@ returns-then-branch-clause-told g c = told_more (Ok true) _ _ _ _ _ _ _ _ _ c.lo
 pub returns-in_err-gather_some-clause-told : goal.returns-in_err-gather_some-clause-told
 returns-in_err-gather_some-clause-told g c =
     let p = err_from_is_err_and c.from_residual.result c.from_residual.ensures.1 in
-    rw (p.1) (told_more (Err c.in_err-gather_some.field-0.0) c.args.line.now.items c.loop-look.line.items
+    rw (p.1, p.2) (told_more (Err c.in_err-gather_some.field-0.0) c.args.line.now.items c.loop-look.line.items
     c.gather_some.new.line.items _ _ _ _ _ _ c.loop-look.invariant.told c.in_err-gather_some.ensures.told)
 
 pub returns-clause-told : goal.returns-clause-told
-returns-clause-told g c = (c.loop-look.invariant.told.0, c.loop-look.invariant.told.1, c.loop-look.invariant.told.2.1)
+returns-clause-told g c = (
+  c.loop-look.invariant.told.0,
+  c.loop-look.invariant.told.1,
+  (tt, c.loop-look.invariant.told.2.1),
+)
 
 pub returns-in_err-gather_some-clause-spent : goal.returns-in_err-gather_some-clause-spent
 returns-in_err-gather_some-clause-spent g c = c.gather_some.ensures.spent ∙ c.loop-look.invariant.spent
@@ -90,8 +67,6 @@ returns-clause-failed g c =
 
 pub loop-look-init : goal.loop-look-init
 loop-look-init g c = record {
-  line = KeepsLine-own _ _;
-  begun = (_, Consumes-nil _);
   told = ([], Takes-none _ _ _ (Keeps-refl _), (sym (append-nil _), no_feed_none));
   spent = refl;
   failed = fails_own c.args.taken.now;

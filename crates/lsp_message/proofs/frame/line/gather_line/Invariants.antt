@@ -1,15 +1,11 @@
 use Rattle.std.proofs.Common.{◌+◌, ◌≤◌, Ok, false, None}
 use Rattle.lsp_message.specs.Failures.{ReaderFails}
-use Rattle.lsp_message.specs.Gathering.{TakesFront, KeepsLine}
 use Rattle.lsp_message.specs.Told.{Told}
 use Rattle.lsp_message.specs.ToldSteps.{noted, GathersSome, Spends}
 use Rattle.lsp_message.proofs.frame.line.gather_line.Given as goal
 
 abbrev pub invariant-loop-look : goal.invariant-loop-look
 invariant-loop-look g l = record {
-  line : KeepsLine l.initial.line.items (g.R.Read.remaining l.initial.reader) l.line.items (g.R.Read.remaining
-      l.reader);
-  begun : TakesFront (g.R.Read.remaining l.initial.reader) (g.R.Read.remaining l.reader);
   told : Told (GathersSome (Ok false) l.initial.line.items l.line.items) l.initial.taken.parts l.taken.parts
       (g.R.Read.remaining l.initial.reader) (g.R.Read.remaining l.reader);
   spent : Spends l.initial.taken.parts l.taken.parts l.initial.room l.room;

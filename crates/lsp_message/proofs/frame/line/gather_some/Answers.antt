@@ -1,15 +1,12 @@
 use Rattle.std.proofs.Common.{ℕ, List, [], ◌∷◌, take, ◌≡◌, ◌≤◌, length, IfSome, sym, subst, arith, length-take}
-use Rattle.std.proofs.Common.{length-take-le, Bool, false, true≢false, inl, inr, ap, refl, eq-eqb, ◌∙◌}
+use Rattle.std.proofs.Common.{length-take-le, le_refl, Bool, false, true≢false, inl, inr, ap, refl, eq-eqb, ◌∙◌}
 use Rattle.std.proofs.lemmas.Result.{err_from_is_err_and}
 use Rattle.std.specs.Io.{StartsWith}
 use Rattle.std.specs.Io.KnownBytes.{Keeps}
-use Rattle.lsp_message.specs.ToldSteps.{GathersSome}
 use Rattle.std.proofs.BufReadLemmas.{Consumes_shown}
 use Rattle.lsp_message.proofs.Bounds.{spends_taken}
 use Rattle.lsp_message.proofs.Failures.{fails_never, fails_own, fails_once, counts_failure, counts_parts, some_in}
-use Rattle.lsp_message.proofs.Shown.{IsLinePart, part_to_feed, part_with_no_feed, kept_shown, shown_left, front_shown}
-use Rattle.lsp_message.proofs.Shown.{end_shown, fits_shown, dropped, line_ends, line_goes_on}
-use Rattle.lsp_message.proofs.Takings.{TakesFront-kept, StaysInLine-kept, OnErr-any}
+use Rattle.lsp_message.proofs.Shown.{kept_shown, shown_left, front_shown, end_shown, fits_shown}
 use Rattle.lsp_message.proofs.Told.{Takes-none, Takes-kept, Takes-one}
 use Rattle.lsp_message.proofs.ToldLines.{IsPart, feed_part, no_feed_part, part_shows, gathers_part, gathers_nothing}
 use Rattle.lsp_message.proofs.ToldLines.{no_feed_none}
@@ -46,29 +43,12 @@ end : (g : Over) (c : goal.After-consume g) → IfSome (g.R.Read.remaining c.arg
 end g c = end_shown (g.R.Read.remaining c.args.reader.now) c.in-Ok.shown.now c.min.result (within g c) (λ none. omega
     (arith, none, c.min.ensures)) c.in-Ok.ensures.end
 
-part : (g : Over) (c : goal.After-consume g) → IsLinePart (short g c) c.match-memchr.count.0 c.match-memchr.count.1
-part g c = elim c.match-memchr.branch [
-  | in-Some w ↦ subst (λ p. IsLinePart (short g c) p.0 p.1) (sym w.count-is) (part_to_feed _ _ w.in-Some.ensures)
-  | in-None w ↦ subst (λ p. IsLinePart (short g c) p.0 p.1) (sym w.count-is) (subst (IsLinePart _ _)
-      (sym w.is_empty.ensures) (part_with_no_feed _ w.in-None.ensures))
+shows : (g : Over) (c : goal.After-consume g) → c.match-memchr.count.0 ≤ length (short g c)
+shows g c = elim c.match-memchr.branch [
+  | in-Some w ↦ subst (λ (p : ℕ × Bool). p.0 ≤ length (short g c)) (sym w.count-is) (let h = w.in-Some.ensures.0.high in
+      omega (arith, h))
+  | in-None w ↦ subst (λ (p : ℕ × Bool). p.0 ≤ length (short g c)) (sym w.count-is) (le_refl _)
 ]
-
-pub returns-clause-more : goal.returns-clause-more
-returns-clause-more g c = λ is.
-    let moved = dropped _ _ _ _ _ _ (part g c).within (kept g c).0 (kept g c).1 c.consume.ensures.bytes in
-    line_goes_on _ _ _ _ _ _ _ (part g c) c.in_ok-extend_from_slice.ensures.items (front g c) moved (cc)
-
-pub returns-clause-end : goal.returns-clause-end
-returns-clause-end g c = λ is.
-    let moved = dropped _ _ _ _ _ _ (part g c).within (kept g c).0 (kept g c).1 c.consume.ensures.bytes in
-    line_ends _ _ _ _ _ _ _ (part g c) c.in_ok-extend_from_slice.ensures.items (front g c) (end g c) moved (cc)
-
-pub returns-clause-begun : goal.returns-clause-begun
-returns-clause-begun g c = (
-  _,
-  (Consumes_shown _ _ _ _ _ _ (part g c).within (front g c) (end g c) (kept g c).0 (kept g c).1
-      c.consume.ensures.bytes).0,
-)
 
 pub returns-in_err-extend_from_slice-clause-memory : goal.returns-in_err-extend_from_slice-clause-memory
 returns-in_err-extend_from_slice-clause-memory g c = λ is.
@@ -82,13 +62,6 @@ returns-in_err-extend_from_slice-clause-memory g c = λ is.
       few,
       length-take c.min.result c.in-Ok.shown.now,
     ))
-
-pub returns-in_err-extend_from_slice-clause-begun : goal.returns-in_err-extend_from_slice-clause-begun
-returns-in_err-extend_from_slice-clause-begun g c = TakesFront-kept _ _ c.fill_buf.follows.holds-at-none.0
-
-pub returns-in_err-extend_from_slice-clause-stays : goal.returns-in_err-extend_from_slice-clause-stays
-returns-in_err-extend_from_slice-clause-stays g c = OnErr-any _ (StaysInLine-kept _ _
-    c.fill_buf.follows.holds-at-none.0)
 
 told_part : (g : Over) (c : goal.After-consume g) → IsPart (short g c) c.match-memchr.count.0 c.match-memchr.count.1
 told_part g c = elim c.match-memchr.branch [
@@ -107,16 +80,12 @@ returns-in-Err-clause-told g c = (
 
 pub returns-in_err-extend_from_slice-clause-told : goal.returns-in_err-extend_from_slice-clause-told
 returns-in_err-extend_from_slice-clause-told g c =
-    let p = err_from_is_err_and c.from_residual.result c.from_residual.ensures.1 in (
-      [],
-      Takes-none _ _ _ c.fill_buf.follows.holds-at-none.0,
-      subst (λ r. GathersSome r c.args.line.now.items
-          c.extend_from_slice.new.self.items []) (sym p.1) no_feed_none,
-    )
+    let p = err_from_is_err_and c.from_residual.result c.from_residual.ensures.1 in
+    rw (p.1, p.2) ([], Takes-none _ _ _ c.fill_buf.follows.holds-at-none.0, (tt, no_feed_none))
 
 pub returns-clause-told : goal.returns-clause-told
 returns-clause-told g c =
-    let taken = Consumes_shown _ _ _ _ _ _ (part g c).within (front g c) (end g c) (kept g c).0 (kept g c).1
+    let taken = Consumes_shown _ _ _ _ _ _ (shows g c) (front g c) (end g c) (kept g c).0 (kept g c).1
     c.consume.ensures.bytes in (
       take c.match-memchr.count.0 (short g c) ∷ [],
       Takes-one _ _ _ _ _ c.add.ensures.parts taken.0 (λ none. taken.1 (part_shows _ _ _ (told_part g c) none)),
@@ -125,7 +94,7 @@ returns-clause-told g c =
 
 pub returns-clause-spent : goal.returns-clause-spent
 returns-clause-spent g c =
-    let shows = (part g c).within in
+    let shows = shows g c in
     let size = length-take-le c.min.result c.in-Ok.shown.now (within g c) in
     spends_taken c.match-memchr.count.0 (short g c) _ _ _ c.add.ensures.parts shows (omega (
       arith,

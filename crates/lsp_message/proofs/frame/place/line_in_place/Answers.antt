@@ -1,46 +1,22 @@
-use Rattle.std.proofs.Common.{Ok, Err, [], sym, ap, ◌∙◌, eqb-true, refl, arith, ◌+◌}
+use Rattle.std.proofs.Common.{◌≡◌, ⊎_elim, Ok, Err, [], sym, ap, ◌∙◌, eqb-true, refl, arith, ◌+◌}
+use Rattle.lsp_message.specs.declared.frame.ReadFault.TheVariants.{Memory}
 use Rattle.lsp_message.specs.declared.frame.place.InPlace.TheVariants.{Cut}
 use Rattle.lsp_message.proofs.Failures.{fails_never, fails_own, fails_once, fails_otherwise}
-use Rattle.lsp_message.proofs.KnownLines.{line_is_no_input}
+use Rattle.lsp_message.proofs.KnownLines.{line_is_no_input, line_tested}
 use Rattle.lsp_message.proofs.Bounds.{spends_taken, spends_none}
-use Rattle.lsp_message.proofs.Places.{placed_line, placed_begun, not_shown}
 use Rattle.lsp_message.proofs.Shown.{kept_shown}
-use Rattle.lsp_message.proofs.Takings.{TakesFront-kept}
 use Rattle.lsp_message.proofs.Told.{Takes-none, Takes-kept}
 use Rattle.lsp_message.proofs.ToldLines.{placed_nothing, told_end, told_placed}
 use Rattle.lsp_message.proofs.frame.place.line_in_place.Goals as goal
 
-pub returns-in-Err-clause-exact : goal.returns-in-Err-clause-exact
-returns-in-Err-clause-exact g c = not_shown _ _ _ _ c.fill_buf.follows.holds-at-none.0
+pub returns-in-Err-clause-memory : goal.returns-in-Err-clause-memory
+returns-in-Err-clause-memory g c = λ is. ⊎_elim (λ again. cc (again.1, is)) (λ failed. cc (failed.1, is))
     c.unless_interrupted.ensures.again
 
-pub returns-in-Ok-line-clause-exact : goal.returns-in-Ok-line-clause-exact
-returns-in-Ok-line-clause-exact g c =
-    let kept = kept_shown _ _ _ _ _ c.in-Ok.is c.fill_buf.follows.holds-at-none in
-    placed_line _ _ _ _ _ _ c.in-Some.ensures c.in-Ok.ensures.front c.in-Ok.ensures.end kept c.consume.ensures.bytes
-    (Ok c.in-Ok-line.line) (sym c.in-Ok-line.is ∙ c.header_line-line.ensures)
-
-pub returns-in-Err-line-clause-exact : goal.returns-in-Err-line-clause-exact
-returns-in-Err-line-clause-exact g c =
-    let kept = kept_shown _ _ _ _ _ c.in-Ok.is c.fill_buf.follows.holds-at-none in
-    placed_line _ _ _ _ _ _ c.in-Some.ensures c.in-Ok.ensures.front c.in-Ok.ensures.end kept c.consume.ensures.bytes
-    (Err c.in-Err-line.fault) (sym c.in-Err-line.is ∙ c.header_line-line.ensures)
-
-pub returns-in-Ok-line-clause-begun : goal.returns-in-Ok-line-clause-begun
-returns-in-Ok-line-clause-begun g c =
-    let kept = kept_shown _ _ _ _ _ c.in-Ok.is c.fill_buf.follows.holds-at-none in
-    placed_begun _ _ _ _ _ _ c.in-Some.ensures c.in-Ok.ensures.front c.in-Ok.ensures.end kept c.consume.ensures.bytes
-
-pub returns-in-Err-line-clause-begun : goal.returns-in-Err-line-clause-begun
-returns-in-Err-line-clause-begun g c =
-    let kept = kept_shown _ _ _ _ _ c.in-Ok.is c.fill_buf.follows.holds-at-none in
-    placed_begun _ _ _ _ _ _ c.in-Some.ensures c.in-Ok.ensures.front c.in-Ok.ensures.end kept c.consume.ensures.bytes
-
-pub returns-in-None-clause-begun : goal.returns-in-None-clause-begun
-returns-in-None-clause-begun g c = TakesFront-kept _ _ c.fill_buf.follows.holds-at-none.0
-
-pub returns-in-None-2-clause-begun : goal.returns-in-None-2-clause-begun
-returns-in-None-2-clause-begun g c = TakesFront-kept _ _ c.fill_buf.follows.holds-at-none.0
+pub returns-in-Err-line-clause-memory : goal.returns-in-Err-line-clause-memory
+returns-in-Err-line-clause-memory g c = λ is.
+    let fault : c.in-Err-line.fault ≡ Memory = cc (is) in
+    line_tested _ (sym c.header_line-line.ensures ∙ c.in-Err-line.is ∙ ap Err fault)
 
 pub returns-in-Err-clause-told : goal.returns-in-Err-clause-told
 returns-in-Err-clause-told g c = (
@@ -70,9 +46,6 @@ returns-in-Err-line-clause-told g c =
     let kept = kept_shown _ _ _ _ _ c.in-Ok.is c.fill_buf.follows.holds-at-none in
     told_placed _ _ _ _ _ _ _ _ c.in-Some.ensures c.in-Ok.ensures.front c.in-Ok.ensures.end kept c.consume.ensures.bytes
     c.add-2.ensures.parts (Err c.in-Err-line.fault) (sym c.in-Err-line.is ∙ c.header_line-line.ensures)
-
-pub returns-then-count-room-clause-begun : goal.returns-then-count-room-clause-begun
-returns-then-count-room-clause-begun g c = TakesFront-kept _ _ c.fill_buf.follows.holds-at-none.0
 
 pub returns-then-count-room-clause-told : goal.returns-then-count-room-clause-told
 returns-then-count-room-clause-told g c = ([], Takes-none _ _ _ c.fill_buf.follows.holds-at-none.0, refl)

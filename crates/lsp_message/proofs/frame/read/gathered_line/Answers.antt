@@ -1,47 +1,28 @@
-use Rattle.std.proofs.Common.{◌≡◌, inl, Err, eqb-true, length, sym, ap, subst, ◌∙◌, eq-eqb, true≢false}
+use Rattle.std.proofs.Common.{◌≡◌, inl, Err, eqb-true, length, sym, ap, ◌∙◌, eq-eqb, true≢false}
 use Rattle.std.proofs.lemmas.Result.{err_from_is_err_and}
-use Rattle.lsp_message.specs.Gathering.{EndsLine}
 use Rattle.lsp_message.specs.HeaderPart.{header_line}
+use Rattle.lsp_message.specs.declared.frame.ReadFault.TheVariants.{Memory}
 use Rattle.lsp_message.proofs.Failures.{fails_otherwise, room_left}
-use Rattle.lsp_message.proofs.HeaderSteps.{line_read}
-use Rattle.lsp_message.proofs.KnownLines.{line_is_no_input}
-use Rattle.lsp_message.proofs.Suffixes.{line_stops}
+use Rattle.lsp_message.proofs.KnownLines.{line_is_no_input, line_tested}
 use Rattle.lsp_message.proofs.ToldLines.{Told-map, gathered_parts, line_failed, line_none, line_good, line_bad}
 use Rattle.lsp_message.proofs.frame.read.gathered_line.Goals as goal
 
-pub returns-in_err-header_line-clause-exact : goal.returns-in_err-header_line-clause-exact
-returns-in_err-header_line-clause-exact g c =
-    let gathered = subst (λ l. EndsLine l (g.R.Read.remaining c.args.reader.now) c.gather_line.new.line.items
-    (g.R.Read.remaining c.gather_line.new.reader)) c.clear.ensures.items c.in_ok-gather_line.ensures.line in
-    let some : length c.gather_line.new.line.items ≡ 0 → ⊥ = λ none. true≢false
-    (sym (eq-eqb _ _ (c.gather_line.new.line.ok.0 ∙ none)) ∙ sym c.is_empty.ensures ∙ c.if-is_empty.false) in
+pub returns-in_err-gather_line-clause-memory : goal.returns-in_err-gather_line-clause-memory
+returns-in_err-gather_line-clause-memory g c = λ is.
+    let p = err_from_is_err_and c.from_residual.result c.from_residual.ensures.1 in
+    c.gather_line.ensures.memory (c.in_err-gather_line.was ∙ ap Err (cc (p.1, p.2, is)))
+
+pub returns-in_err-header_line-clause-memory : goal.returns-in_err-header_line-clause-memory
+returns-in_err-header_line-clause-memory g c = λ is.
     let p = err_from_is_err_and c.from_residual-in_err-header_line.result c.from_residual-in_err-header_line.ensures.1
     in
-    rw (p.1, p.2) (line_read (g.R.Read.remaining c.args.reader.now) (g.R.Read.remaining c.gather_line.new.reader)
-    c.gather_line.new.line.items _ gathered some (c.in_err-header_line.ensures
-    ∙ ap header_line c.deref.ensures.value))
-
-pub returns-in_err-gather_line-clause-exact : goal.returns-in_err-gather_line-clause-exact
-returns-in_err-gather_line-clause-exact g c =
-    let p = err_from_is_err_and c.from_residual.result c.from_residual.ensures.1 in
-    rw (p.1, p.2) (line_stops _ _ _ c.in_err-gather_line.ensures.fault c.in_err-gather_line.ensures.stays
-    (λ is. c.gather_line.ensures.memory (c.in_err-gather_line.was ∙ ap Err is)))
-
-pub returns-clause-exact : goal.returns-clause-exact
-returns-clause-exact g c =
-    let gathered = subst (λ l. EndsLine l (g.R.Read.remaining c.args.reader.now) c.gather_line.new.line.items
-    (g.R.Read.remaining c.gather_line.new.reader)) c.clear.ensures.items c.in_ok-gather_line.ensures.line in
-    let some : length c.gather_line.new.line.items ≡ 0 → ⊥ = λ none. true≢false
-    (sym (eq-eqb _ _ (c.gather_line.new.line.ok.0 ∙ none)) ∙ sym c.is_empty.ensures ∙ c.if-is_empty.false) in
-    line_read (g.R.Read.remaining c.args.reader.now) (g.R.Read.remaining c.gather_line.new.reader)
-    c.gather_line.new.line.items _ gathered some (c.in_ok-header_line.ensures
-    ∙ ap header_line c.deref.ensures.value)
+    let fault : c.in_err-header_line.field-0.0 ≡ Memory = cc (p.1, p.2, is) in
+    absurd (line_tested _ (sym c.in_err-header_line.ensures ∙ ap Err fault))
 
 pub returns-in_err-gather_line-clause-told : goal.returns-in_err-gather_line-clause-told
 returns-in_err-gather_line-clause-told g c =
     let p = err_from_is_err_and c.from_residual.result c.from_residual.ensures.1 in
-    rw (p.1, p.2) (Told-map _ _ _ _ _ _ (λ parts none. line_failed _ parts c.in_err-gather_line.ensures.fault none)
-    c.in_err-gather_line.ensures.told)
+    rw (p.1, p.2) (Told-map _ _ _ _ _ _ (λ parts failed. line_failed _ parts failed) c.in_err-gather_line.ensures.told)
 
 pub returns-then-is_empty-clause-told : goal.returns-then-is_empty-clause-told
 returns-then-is_empty-clause-told g c =
