@@ -7,6 +7,7 @@ ghost use Rattle.serde_json.specs.View.{view};
 ghost use Rattle.lsp_message.specs.Failures.{WriterFails};
 ghost use Rattle.lsp_message.specs.Message.{response};
 ghost use Rattle.lsp_message.specs.Readable.{WritesReadably};
+ghost use Rattle.lsp_message.specs.ResultText.{spare_tree};
 ghost use Rattle.lsp_message.specs.Text.{IsBodyOf, IsValueText};
 ghost use Rattle.lsp_message.specs.Told.{Given, WritesParts};
 ghost use Rattle.lsp_message.specs.View.{message_view};
@@ -77,18 +78,26 @@ impl ResultText {
     pub fn of(alloc: Global, tree: Value) -> Result<ResultText, AllocError>
         ensures { IfOk result (λ kept. kept ≡ tree) }
     {
+        let (text, tree) = ResultText::with_tree(alloc, tree)?;
+        drop(tree);
+        Ok(text)
+    }
+
+    /// Writes the text of a result, and returns the tree too, so that the thread that made it can drop it. There is no
+    /// tree if it nests more than 127 levels: the result keeps it then. The error means that an allocation failed. The
+    /// tree is dropped then.
+    pub fn with_tree(alloc: Global, tree: Value) -> Result<(ResultText, Option<Value>), AllocError>
+        ensures text { IfOk result (λ made. made.0 ≡ tree) }
+        ensures tree { IfOk result (λ made. made.1 ≡ spare_tree tree) }
+    {
         if !nests_within(&tree, MAX_LEVELS) {
-            return Ok(ResultText {
-                kept: Kept::Tree(tree),
-            });
+            let kept = Kept::Tree(tree);
+            return Ok((ResultText { kept }, None));
         }
         let mut text = tree.to_string(alloc)?;
         text.shrink_to_fit();
-        let seen = Snapshot::of(&tree);
-        drop(tree);
-        Ok(ResultText {
-            kept: Kept::Text(text, seen),
-        })
+        let kept = Kept::Text(text, Snapshot::of(&tree));
+        Ok((ResultText { kept }, Some(tree)))
     }
 
     /// Returns the result as a tree again, read from its text. The error means that an allocation failed.
