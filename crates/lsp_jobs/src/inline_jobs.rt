@@ -232,7 +232,8 @@ impl<S: JobServer<J> + Drop, J: Job> Server for InlineJobs<S, J> {
     }
 }
 
-/// Runs a job. Returns its result, and the notifications that it sent, in order.
+/// Runs a job. Returns its result, and the notifications that it sent, in order. If one was lost for want of memory, the
+/// job ends with `Interrupted::Memory`.
 fn perform<W: Picked<J>, J: Job>(
     alloc: Global,
     job: J,
@@ -244,8 +245,14 @@ fn perform<W: Picked<J>, J: Job>(
         All (λ n. MayReport J.Job W.job (string_bytes n.method) (view n.params)) done.1.items) }
 {
     let mut context: InlineContext<W, J> = InlineContext::new(alloc);
-    let ran = run_as_text(job, alloc, &mut context);
+    let (ran, tree) = run_as_text(job, alloc, &mut context);
+    drop(tree);
+    let has_lost = context.has_lost;
     let sent = context.into_sent()?;
+    if has_lost {
+        drop(ran);
+        return Ok((Err(Interrupted::Memory), sent));
+    }
     Ok((ran, sent))
 }
 
@@ -297,6 +304,8 @@ struct InlineContext<W: Picked<J>, J: Job> {
     sent: Vec<Notification>,
     /// What is sent when the job ends.
     last: Option<Notification>,
+    /// Whether a notification was lost that the job had to send, since an allocation failed. Then it sends no other.
+    has_lost: bool,
 }
 
 impl<W: Picked<J>, J: Job> Model for InlineContext<W, J> {
@@ -320,6 +329,7 @@ impl<W: Picked<J>, J: Job> InlineContext<W, J> {
             of: PhantomData,
             sent: Vec::new(alloc),
             last: None,
+            has_lost: false,
         }
     }
 
@@ -349,17 +359,16 @@ impl<W: Picked<J>, J: Job> JobContext for InlineContext<W, J> {
     }
 
     fn report(&mut self, notification: Notification) -> bool {
-        self.send(notification)
+        !self.has_lost && self.sent.push(notification).is_ok()
     }
 
     fn send(&mut self, notification: Notification) -> bool {
-        match self.sent.push(notification) {
-            Ok(()) => true,
-            Err(failed) => {
-                drop(failed);
-                false
-            }
+        let is_sent = self.report(notification);
+        if !is_sent {
+            self.has_lost = true;
+            self.last = None;
         }
+        is_sent
     }
 
     fn at_end(&mut self, last: Option<Notification>) {

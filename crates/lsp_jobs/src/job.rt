@@ -191,51 +191,59 @@ pub struct DoneJob<F> {
     pub found: Option<F>,
 }
 
-/// Runs a job, and makes its reply text. If an allocation fails at that, the job ends with `Interrupted::Memory`.
+/// Runs a job, and makes its reply text. It returns the job's result, and the tree of the reply, which nobody needs any
+/// longer. If an allocation fails at that, the job ends with `Interrupted::Memory`.
 pub(crate) fn run_as_text<J: Job, C: JobContext>(
     job: J,
     alloc: Global,
     context: &mut C,
-) -> Result<DoneJob<J::Found>, Interrupted>
+) -> (Result<DoneJob<J::Found>, Interrupted>, Option<Value>)
     requires reporting { (method : List ℕ) (params : Data) → J.reports «job» method params
         → C.may method params }
     requires asking { (method : List ℕ) (params : Data) → J.asks «job» method params
         → C.may_send_request method params }
-    ensures { IfOk result (λ done. J.run_post «job» (option_map outcome_view done.reply) done.found) }
+    ensures { IfOk result.0 (λ done. J.run_post «job» (option_map outcome_view done.reply) done.found) }
 {
     match job.run(context) {
         Ok(done) => with_text(alloc, done),
-        Err(end) => Err(end),
+        Err(end) => (Err(end), None),
     }
 }
 
-/// Returns the result of a job with its reply as text. If an allocation fails, the job ends with `Interrupted::Memory`.
-fn with_text<F: Drop>(alloc: Global, done: JobResult<F>) -> Result<DoneJob<F>, Interrupted>
-    ensures { IfOk result (λ kept. (option_map outcome_view kept.reply ≡ option_map outcome_view done.reply)
+/// Returns the result of a job with its reply as text, and the tree of the reply. If an allocation fails, the job ends
+/// with `Interrupted::Memory`.
+fn with_text<F: Drop>(
+    alloc: Global,
+    done: JobResult<F>,
+) -> (Result<DoneJob<F>, Interrupted>, Option<Value>)
+    ensures { IfOk result.0 (λ kept. (option_map outcome_view kept.reply ≡ option_map outcome_view done.reply)
         × (kept.found ≡ done.found)) }
 {
     let JobResult { reply, found } = done;
     let Some(outcome) = reply else {
-        return Ok(DoneJob { reply: None, found });
+        return (Ok(DoneJob { reply: None, found }), None);
     };
     match outcome_with_text(alloc, outcome) {
-        Ok(outcome) => Ok(DoneJob {
-            reply: Some(outcome),
-            found,
-        }),
-        Err(_) => Err(Interrupted::Memory),
+        Ok((outcome, tree)) => {
+            let reply = Some(outcome);
+            (Ok(DoneJob { reply, found }), tree)
+        }
+        Err(_) => (Err(Interrupted::Memory), None),
     }
 }
 
-/// Returns an outcome with its result as text.
+/// Returns an outcome with its result as text, and the tree of the result.
 fn outcome_with_text(
     alloc: Global,
     outcome: Result<Value, ResponseError>,
-) -> Result<Result<ResultText, ResponseError>, AllocError>
-    ensures { IfOk result (λ kept. outcome_view kept ≡ outcome_view outcome) }
+) -> Result<(Result<ResultText, ResponseError>, Option<Value>), AllocError>
+    ensures { IfOk result (λ kept. outcome_view kept.0 ≡ outcome_view outcome) }
 {
     match outcome {
-        Ok(tree) => Ok(Ok(ResultText::of(alloc, tree)?)),
-        Err(error) => Ok(Err(error)),
+        Ok(tree) => {
+            let (text, tree) = ResultText::with_tree(alloc, tree)?;
+            Ok((Ok(text), tree))
+        }
+        Err(error) => Ok((Err(error), None)),
     }
 }

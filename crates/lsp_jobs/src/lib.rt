@@ -15,6 +15,7 @@ mod pool;
 mod pooled_server;
 mod progress;
 mod reporter;
+mod returned_trees;
 mod run;
 mod table;
 mod waiting_jobs;

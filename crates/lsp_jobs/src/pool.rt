@@ -10,6 +10,7 @@ use crate::cancellation::CancellationToken;
 use crate::job::{DoneJob, Interrupted, Job};
 use crate::names::JobName;
 use crate::notifier::Notifier;
+use crate::returned_trees::ReturnedTrees;
 use crate::table::{Entry, JobTable};
 use crate::waiting_jobs::{JobSource, WaitingJobs, queue_of_jobs};
 use crate::workers::{QueuedJob, join_all, start_job_workers};
@@ -122,6 +123,8 @@ pub struct JobPool<T: Wait + Drop, J: Job> {
     table: JobTable<J>,
     waiting: WaitingJobs<QueuedJob<J>>,
     replies: Arc<Mutex<Replies>>,
+    /// The trees of results that are to be freed.
+    returned: ReturnedTrees,
     workers: Vec<JoinHandle<()>>,
 }
 
@@ -216,7 +219,8 @@ fn pool_without_workers<T: Wait + Drop, J: Job>(
         return Err(AllocError);
     };
     let replies = Replies::new(alloc)?;
-    let (waiting, taken) = queue_of_jobs(alloc, size)?;
+    let (returned, trees) = ReturnedTrees::new(alloc)?;
+    let (waiting, taken) = queue_of_jobs(alloc, size, trees)?;
     let table = JobTable::new(alloc)?;
     let pool = JobPool {
         rt,
@@ -225,6 +229,7 @@ fn pool_without_workers<T: Wait + Drop, J: Job>(
         table,
         waiting,
         replies,
+        returned,
         workers: Vec::new(alloc),
     };
     Ok((pool, taken))
@@ -235,6 +240,11 @@ impl<T: Wait + Drop, J: Job> JobPool<T, J> {
     /// submitted.
     pub fn has_room(&self) -> bool {
         self.waiting.has_room(&self.rt, false)
+    }
+
+    /// Records the params of a long request, whose job may return them as its result.
+    pub(crate) fn record_params(&self, params: &Value) {
+        self.returned.record_params(params);
     }
 
     /// Returns whether there is room for one more job with a name of this kind.
@@ -273,6 +283,7 @@ impl<T: Wait + Clock + Drop, J: Job> JobPool<T, J> {
         ensures err { OnErr result (pending_jobs self.new ≡ without name (pending_jobs self.old)) }
         ensures name { IfErr result (λ back. back ≡ name) }
     {
+        self.returned.free_all(&self.rt);
         match self.keep(name, job, time) {
             Ok(()) => Ok(()),
             Err(name) => {
@@ -392,6 +403,7 @@ impl<T: Wait + Drop, J: Job> JobPool<T, J> {
             (pending_jobs self.new)) }
         ensures none { IfNone result (pending_jobs self.new ≡ pending_jobs self.old) }
     {
+        self.returned.free_all(&self.rt);
         let (name, message) = self.table.take(&self.rt)?;
         match &message {
             JobMessage::Report(_) => (),

@@ -178,6 +178,7 @@ where
             drop(request);
             return Ok(AnsweredBy::Reply(Err(refusal(self.alloc)?)));
         }
+        self.pool.record_params(&request.params);
         match self.server.job(request) {
             Ok(by) => Ok(by),
             Err(_) => Ok(AnsweredBy::Reply(Err(out_of_memory(self.alloc)?))),

@@ -109,15 +109,19 @@ impl WorkDone {
         self.begin_with(context, value)
     }
 
-    /// Sends the begin, and keeps an end that is sent when the job ends.
+    /// Sends the begin, and keeps an end that is sent when the job ends. If an allocation failed, it does neither.
     fn begin_with<C: JobContext>(&self, context: &mut C, value: Value) -> Result<(), AllocError>
         requires { IfSome (option_map view self.now) (λ token. (value : Data)
             → C.may progress_method (progress_params token value)) }
     {
         let end = json!(in self.alloc; { "kind": "end" })?;
         let last = notification_of(self.alloc, &self.token, end)?;
-        context.at_end(last);
-        send(self.alloc, &self.token, context, value)
+        let first = notification_of(self.alloc, &self.token, value)?;
+        if let Some(first) = first {
+            context.at_end(last);
+            context.send(first);
+        }
+        Ok(())
     }
 
     /// Reports the progress of the job. The report is dropped if there is no room to send: see `JobContext::report`.

@@ -3,6 +3,7 @@
 ghost use Rattle.std.specs.Prelude.{◌≡◌, IfErr};
 
 use crate::pool::PoolSize;
+use crate::returned_trees::TreeReturn;
 use std::alloc::{AllocError, Global};
 use std::collections::BTreeMap;
 use std::sync::atomic::{AtomicBool, AtomicU64, Ordering};
@@ -190,14 +191,16 @@ impl<E: Drop> Drop for WaitingJobs<E> {
 pub(crate) struct JobSource<E: Drop> {
     rows: Arc<Mutex<Rows<E>>>,
     running: Arc<RunningJobs, Global>,
+    trees: Arc<TreeReturn, Global>,
     /// How many jobs under keys may run at once.
     threads_for_keys: u64,
 }
 
-/// Makes a queue of this many jobs.
+/// Makes a queue of this many jobs. The trees of their results go to `trees`.
 pub(crate) fn queue_of_jobs<E: Drop>(
     alloc: Global,
     size: PoolSize,
+    trees: Arc<TreeReturn, Global>,
 ) -> Result<(WaitingJobs<E>, JobSource<E>), AllocError> {
     let none = Rows {
         requests: BTreeMap::new(alloc),
@@ -210,6 +213,7 @@ pub(crate) fn queue_of_jobs<E: Drop>(
     let source = JobSource {
         rows: Arc::try_clone(&rows)?,
         running: RunningJobs::new(alloc)?,
+        trees,
         threads_for_keys: size.threads_for_keys() as u64,
     };
     let running = Arc::try_clone(&source.running)?;
@@ -327,6 +331,7 @@ impl<E: Drop> JobSource<E> {
         Ok(JobSource {
             rows: Arc::try_clone(&self.rows)?,
             running: Arc::try_clone(&self.running)?,
+            trees: Arc::try_clone(&self.trees)?,
             threads_for_keys: self.threads_for_keys,
         })
     }
@@ -334,6 +339,11 @@ impl<E: Drop> JobSource<E> {
     /// Returns the count of the jobs that run.
     pub fn running(&self) -> &RunningJobs {
         &self.running
+    }
+
+    /// Returns where the trees of results go.
+    pub fn trees(&self) -> &TreeReturn {
+        &self.trees
     }
 
     /// Takes the oldest job of a request. If none waits, it takes one under a key. The job counts as running from now

@@ -14,6 +14,7 @@ use crate::names::JobName;
 use crate::notifier::Notifier;
 use crate::pool::PoolSize;
 use crate::reporter::{Picked, Reporter};
+use crate::returned_trees::TreeReturn;
 use crate::waiting_jobs::{JobSource, RunningJobs};
 use lsp_threads::StartFault;
 use std::alloc::Global;
@@ -30,12 +31,14 @@ pub(crate) trait Work: Drop {
     /// Drops the work, since nobody waits for it. It no longer counts as running.
     fn end(self, running: &RunningJobs);
 
-    /// Runs the work to its end, and notifies at each of its messages. It counts as running until its work is done.
+    /// Runs the work to its end, and notifies at each of its messages. It counts as running until its work is done. The
+    /// tree of its result goes to `trees`.
     fn run<T: Wait + Copy + Drop, N: Notifier>(
         self,
         rt: T,
         notifier: N,
         running: &RunningJobs,
+        trees: &TreeReturn,
     ) -> N;
 }
 
@@ -106,8 +109,9 @@ impl<J: Job> Work for QueuedJob<J> {
         rt: T,
         notifier: N,
         running: &RunningJobs,
+        trees: &TreeReturn,
     ) -> N {
-        perform::<Brand, T, J, N>(self, rt, notifier, running)
+        perform::<Brand, T, J, N>(self, rt, notifier, running, trees)
     }
 }
 
@@ -118,6 +122,7 @@ fn perform<W: Picked<J>, T: Wait + Copy + Drop, J: Job, N: Notifier>(
     rt: T,
     notifier: N,
     running: &RunningJobs,
+    trees: &TreeReturn,
 ) -> N
     requires { W.job ≡ Some queued.job }
 {
@@ -145,7 +150,10 @@ fn perform<W: Picked<J>, T: Wait + Copy + Drop, J: Job, N: Notifier>(
         pass,
         last: None,
     };
-    let outcome = run_as_text(job, alloc, &mut reporter);
+    let (outcome, tree) = run_as_text(job, alloc, &mut reporter);
+    if let Some(tree) = tree {
+        trees.give_back(&rt, tree);
+    }
     reporter.end();
     reporter.finish(outcome, running)
 }
@@ -162,7 +170,7 @@ fn run_queued<T: Wait + Clock + Copy + Drop, E: Work, N: Notifier>(
             return;
         };
         if job.is_wanted() {
-            notifier = job.run(rt, notifier, jobs.running());
+            notifier = job.run(rt, notifier, jobs.running(), jobs.trees());
         } else {
             job.end(jobs.running());
         }
