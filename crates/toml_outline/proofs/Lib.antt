@@ -1,0 +1,6 @@
+mod Keeping
+pub mod NameLaws
+mod NextLines
+pub mod Outlines
+mod Steps
+mod Turns
