@@ -251,7 +251,7 @@ def function_at(file, text, at):
         return Place(f"{below}{owner}::{name}", re.escape(f"{below}{owner}::{name}"))
     given = head[: len(head) - len(without_generics(head))] if head.startswith("<") else ""
     of_trait, _, of_type = re.sub(r" where .*", "", head[len(given) :].strip()).rpartition(" for ")
-    owner, rest = re.match(r"&?(\w+)(.*)", of_type.strip()).groups()
+    owner, rest = named_type(of_type.strip())
     # Arguments of the trait that are parameters of the `impl`, or the type itself, are no part of the printed name.
     taken = re.fullmatch(r"([\w:]+)<([\w, <>]*)>", of_trait)
     if taken:
@@ -263,6 +263,15 @@ def function_at(file, text, at):
     pattern = rf"(?:\S+::)?{owner}{'' if is_plain else '[^:]*'}{of_trait}::{name}"
     only = f"{below}{owner}{of_trait}::{name}" if of_trait else f"{owner}::{name}"
     return Place(only if is_plain else module, pattern)
+
+
+def named_type(written):
+    """The name that the prover prints for a type, and the rest of what was written, such as its arguments."""
+    if written == "()":
+        return "Unit", ""
+    if written.startswith("("):
+        return f"Tuple{written.count(',') + 1}", written
+    return re.match(r"&?(\w+)(.*)", written).groups()
 
 
 def without_generics(head):

@@ -459,6 +459,8 @@ class Talker:
             return self.replied(came)
         if came["method"].startswith("typed/"):
             return typed(came)
+        if is_note(came, "$/cancelRequest"):
+            return self.called_off(came["params"]["id"])
         if "id" not in came:
             pushed = {"method": "demo/pushed", **({} if came.get("params") is None else {"params": came["params"]})}
             return [pushed, self.configuration(), *self.released()]
@@ -473,6 +475,16 @@ class Talker:
         """The answers to what it keeps."""
         held, self.held = self.held, []
         return [{"id": it, "result": None} for it in held]
+
+    def called_off(self, name):
+        """A request that has no reply yet gets the error, and no answer later."""
+        asked = [at for at, why in enumerate(self.asked) if isinstance(why, dict) and why["id"] == name]
+        if name not in self.held and not asked:
+            return []
+        self.held = [it for it in self.held if it != name]
+        for at in asked:
+            self.asked[at] = None
+        return [{"id": name, "error": CANCELED}]
 
     def woken(self):
         return [{"method": "demo/woken"}, *self.released()]
@@ -916,6 +928,12 @@ def error_answers(row):
     code, message, data = row.split(" ", 2)
     members = {"id": 1, "error": {"code": int(code), "message": message, "data": json.loads(data)}}
     return [text_of(members), f"Some({debug_message(members_of(members))})"]
+
+
+def result_answers(row):
+    """The text of a result, and the same text of the tree that nobody needs any longer."""
+    text = ordered(json.loads(row))
+    return [text, text]
 
 
 def relay_answers(method):

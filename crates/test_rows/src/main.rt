@@ -4,7 +4,7 @@
 //! - `#`: a remark.
 //! - `calls`, `serve`, `served`, `woken`, `writes`: the calls on lists (`lists.rt`).
 //! - `id`: how an id prints. `values`: a message that is cloned, converted and written. `error`: a response with the
-//!   data of an error. `extract`: params that are taken out.
+//!   data of an error. `result`: a result that waits as text. `extract`: params that are taken out.
 //! - `queues`, `dispatch`, `link`: calls on a state, as steps. `replay`: all steps of a dispatcher at once.
 //! - `plain`, `typed`: values that are read and written by a type: one of serde's kinds, or of `lsp_types`. `uri`,
 //!   `path`: a path and its URI. `names`: whether a URI names a path. `tokens`: the numbers of semantic tokens.
@@ -12,6 +12,7 @@
 //! - `action`, `change`, `report`, `trace`, `register`: what small calls make of an object: a code action, the change of
 //!   semantic tokens, a report of diagnostics, a line of a trace, and the registration of watched files.
 //! - `method`: the acts at a message, by LSP's methods. `configuration`: what a client is asked, and what it sends.
+//! - `announce`: what a table of features announces. `answer`: what it makes of a request.
 //! - `document`: a notification about an open document.
 //!
 //! If an allocation fails, in a call or in the program, the row has a line `refused: ..`, and is run again. The program
@@ -36,6 +37,7 @@ mod said;
 mod servers;
 mod small_calls;
 mod stop;
+mod tables;
 mod typed;
 mod types;
 mod uris;

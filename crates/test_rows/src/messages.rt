@@ -1,7 +1,7 @@
 // What trees mean as messages, and what messages become.
 use crate::by_method;
 use crate::said::Said;
-use lsp_message::{Message, RequestId, Response, ResponseError};
+use lsp_message::{Message, RequestId, Response, ResponseError, ResultText};
 use serde_json::Value;
 use std::alloc::{AllocError, Global};
 
@@ -141,6 +141,29 @@ fn say_read_again(said: &mut Said, message: &Message) {
     match message.to_value(said.alloc) {
         Ok(tree) => said.debug(Message::from_tree(tree)),
         Err(_) => said.is_short = true,
+    }
+}
+
+/// Makes the text of the result in a row, and says it and the tree that it does not need.
+pub fn result(said: &mut Said, row: &str) {
+    let made = match value_in(said.alloc, row) {
+        Ok(tree) => ResultText::with_tree(said.alloc, tree),
+        Err(_) => Err(AllocError),
+    };
+    match made {
+        Ok((text, tree)) => {
+            said.debug(text);
+            say_spare(said, tree);
+        }
+        Err(_) => said.is_short = true,
+    }
+}
+
+fn say_spare(said: &mut Said, tree: Option<Value>) {
+    said.push("\n  ");
+    match tree {
+        Some(tree) => said.show(tree),
+        None => said.push("no tree"),
     }
 }
 

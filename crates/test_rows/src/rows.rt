@@ -2,7 +2,7 @@
 use crate::documents::Documents;
 use crate::said::Said;
 use crate::{
-    by_method, dispatching, links, lists, messages, plain, queues, small_calls, types, uris,
+    by_method, dispatching, links, lists, messages, plain, queues, small_calls, tables, types, uris,
 };
 use std::alloc::Global;
 
@@ -58,6 +58,7 @@ impl Rows {
             "id" => messages::id_text(said, rest),
             "values" => messages::values(said, rest),
             "error" => messages::error(said, rest),
+            "result" => messages::result(said, rest),
             "extract" => messages::extracted(said, rest),
             "queues" => queues::answers(said, rest),
             "dispatch" => dispatching::dispatched(said, rest),
@@ -66,6 +67,8 @@ impl Rows {
             "typed" => types::answer(said, rest),
             "method" => messages::acts(said, rest),
             "configuration" => by_method::configuration(said, rest),
+            "announce" => tables::announced(said, rest),
+            "answer" => tables::answered(said, rest),
             "plain" => plain::answers(said, rest),
             "uri" => uris::uri(said, rest),
             "path" => uris::path(said, rest),
