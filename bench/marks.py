@@ -1,10 +1,10 @@
 #!/usr/bin/env python3
-"""How long the marks of an edited document take while many documents are open, in `example_linter` or another server with diagnostics.
+"""How long the marks of an edited document take while many documents are open, in `example_toml` or another server with diagnostics.
 
     bench/marks.py [--documents 100] [--rounds 5] [--address HOST:PORT]
 
 It opens the documents, edits one at once, and waits for the diagnostics of that version. Then it edits them all, so that each has a job
-that waits, and one of them once more. It prints seconds. Without an address it starts the `example_linter` that `rt ci` built.
+that waits, and one of them once more. It prints seconds. Without an address it starts the `example_toml` that `rt ci` built.
 """
 import argparse
 import statistics
@@ -27,7 +27,7 @@ def marks_of(client, uri, version):
 
 
 def edit(client, uri, version):
-    text = {"text": f"NOTE {version}\n"}
+    text = {"text": f"a = {version}\n"}
     client.notify("textDocument/didChange", {"textDocument": {"uri": uri, "version": version}, "contentChanges": [text]})
 
 
@@ -45,9 +45,9 @@ def measure(client, documents, rounds):
     client.layout = COMPACT
     client.ask("initialize", {"capabilities": {}})
     client.notify("initialized", {})
-    uris = [f"file:///{number}.txt" for number in range(documents)]
+    uris = [f"file:///{number}.toml" for number in range(documents)]
     for uri in uris:
-        client.notify("textDocument/didOpen", {"textDocument": {"uri": uri, "languageId": "text", "version": 0, "text": "NOTE 0\n"}})
+        client.notify("textDocument/didOpen", {"textDocument": {"uri": uri, "languageId": "toml", "version": 0, "text": "a = 0\n"}})
     took, version = measured(client, uris, [], 0)
     print(f"{documents} documents opened, then one edited: {took:.2f} s")
     all_took = []
@@ -70,7 +70,7 @@ def main():
         with Client(None, connected(int(port), host=host)) as client:
             measure(client, words.documents, words.rounds)
     else:
-        with started(built("example_linter"), listens=True) as client:
+        with started(built("example_toml"), listens=True) as client:
             measure(client, words.documents, words.rounds)
 
 

@@ -27,11 +27,11 @@ sys.dont_write_bytecode = True
 from editor import session
 from lsp import HOST, INITIALIZE, INITIALIZED, Client, Program, accepted, built, expect, expect_soon, frame, free_port, run, started
 
-WAYS = [["example_diagnostics"], ["example_search"], ["example_search", "threads"], ["example_search", "jobs"]]
+WAYS = [["example_diagnostics"], ["example_toml", "inline"], ["example_toml", "threads"], ["example_toml"]]
 LEFT = "the client left without a shutdown"
 # The one that serves two clients at the same time.
-TWO_AT_ONCE = ["example_search", "jobs"]
-NOTE = {"uri": "file:///a.sums"}
+TWO_AT_ONCE = ["example_toml"]
+NOTE = {"uri": "file:///a.toml"}
 # A descriptor each for standard input, output and error, and for the socket that listens.
 FOR_NO_CLIENT = 4
 
@@ -144,12 +144,12 @@ def goes_without_a_word(server):
 
 def holds(client, text):
     """It opens a text, and the server holds just that."""
-    client.notify("textDocument/didOpen", {"textDocument": {**NOTE, "languageId": "sums", "version": 1, "text": text}})
+    client.notify("textDocument/didOpen", {"textDocument": {**NOTE, "languageId": "toml", "version": 1, "text": text}})
     is_held(client, text)
 
 
 def is_held(client, text):
-    expect("the text of a client", client.ask("sums/text", {"textDocument": NOTE})["result"], text)
+    expect("the text of a client", client.ask("toml/text", {"textDocument": NOTE})["result"], text)
 
 
 def ends(client):

@@ -1,7 +1,7 @@
 #!/usr/bin/env python3
 """A client whose reply to a request of the server crosses the client's `shutdown`. LSP 3.17 ("Shutdown Request") forbids requests and
 notifications there, and no responses. So the server ignores the reply, waits for `exit`, and ends in status 0: `example_diagnostics`, and
-`example_search` in each of its modes. A request at that place ends the session. Another client sends `shutdown` while its hover waits: the
+`example_toml` in each of its modes. A request at that place ends the session. Another client sends `shutdown` while its hover waits: the
 hover gets its reply first.
 
 It ends in status 1 at the first difference.
@@ -13,7 +13,7 @@ sys.dont_write_bytecode = True
 import watched  # noqa: F401
 from lsp import built, expect, run, started
 
-WAYS = [["example_diagnostics", "--stdio"], ["example_search"], ["example_search", "threads"], ["example_search", "jobs"]]
+WAYS = [["example_diagnostics", "--stdio"], ["example_toml", "inline"], ["example_toml", "threads"], ["example_toml"]]
 CAPABILITIES = {"workspace": {"configuration": True}}
 HOVER = {"textDocument": {"uri": "file:///a"}, "position": {"line": 0, "character": 0}}
 

@@ -7,7 +7,7 @@ server that asks for its configuration gets it before anything else. It checks t
 
 - Each request has one reply, each message has the type of LSP (`typed.py`), and the status is that of LSP 3.17, "Exit Notification": a client
   that never sends `shutdown`, or leaves without `exit`, gets 1.
-- After each notification of a document, the text of `example_search` is that of a model here, and the marks of `example_diagnostics` are those
+- After each notification of a document, the text of `example_toml` is that of a model here, and the marks of `example_diagnostics` are those
   of its lines.
 - After a change that can't be read, the text is lost: the server has no text and no marks, until the client sends the whole text.
 
@@ -27,12 +27,12 @@ from lsp import PATIENCE, Client, Difference, Program, bodies, built, expect, fr
 from typed import lines_of
 
 RECORDINGS = sorted(Path(__file__).resolve().parent.glob("recordings/*.lsp"))
-WAYS = [["example_session"], ["example_diagnostics"], ["example_search"], ["example_search", "threads"], ["example_search", "jobs"]]
+WAYS = [["example_session"], ["example_diagnostics"], ["example_toml", "inline"], ["example_toml", "threads"], ["example_toml"]]
 LINE_END = re.compile("\r\n|\n|\r")
-# The configuration: how many characters `example_diagnostics` allows in a line, if the client can be asked and if not, and what
-# `example_search` allows as a value.
+# The configuration: how many characters `example_diagnostics` allows in a line, if the client can be asked and if not, and the version of TOML
+# for `example_toml`.
 LONGEST, LONGEST_UNASKED = 20, 80
-CONFIGURATION = {"example_diagnostics": [LONGEST], "example_search": [{"largest": 20}]}
+CONFIGURATION = {"example_diagnostics": [LONGEST], "example_toml": [{"version": "1.1"}]}
 # The lines that `example_diagnostics` marks in one recording, from open to close. Spyder's versions go back from 8 to -17 at 25 undos, and
 # marks are shown throughout. Only what this client adds at the end, a change that can't be read and the close, takes them away.
 SHOWN = {"spyder6_search": {"file:///project/a.py": [[2], [2, 5], [2, 5, 17, 20], [2], [], [2], []]}}
@@ -134,10 +134,10 @@ class Played(Client):
         self.asks_for_text(uri, text.text)
 
     def asks_for_text(self, uri, text):
-        if self.way[0] == "example_search":
+        if self.way[0] == "example_toml":
             id = f"text {len(self.held)}"
             self.held[id] = text
-            self.send(id=id, method="sums/text", params={"textDocument": {"uri": uri}})
+            self.send(id=id, method="toml/text", params={"textDocument": {"uri": uri}})
 
     def loses(self, uri):
         """A change that can't be read: the text is held no more, until it comes whole."""

@@ -15,7 +15,7 @@ sys.dont_write_bytecode = True
 from clients_client import FOR_NO_CLIENT, Listening
 from lsp import EXIT, INITIALIZE, INITIALIZED, SHUTDOWN, built, expect, expect_soon, frame, run, started
 
-WAYS = [["example_search"], ["example_search", "threads"], ["example_search", "jobs"]]
+WAYS = [["example_toml", "inline"], ["example_toml", "threads"], ["example_toml"]]
 INITIALIZE, INITIALIZED, SHUTDOWN, EXIT = map(frame, [INITIALIZE, INITIALIZED, SHUTDOWN, EXIT])
 REQUEST = frame(b'{"jsonrpc":"2.0","id":9,"method":"demo/noSuchMethod","params":{}}')
 SESSIONS = [

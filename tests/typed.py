@@ -19,8 +19,8 @@ except ImportError as fault:
     # (an ImportError would say to `editor.py` that nothing is to be judged)
     sys.exit(f"tests/typed.py: {fault}: it is in tools")
 
-# The first words of methods that are a server's own.
-OWN = ("demo/", "sums/", "words/")
+# The first words of methods that are a server's own, also of servers that only recordings have.
+OWN = ("demo/", "toml/", "sums/", "words/")
 # Types that the standard tells more narrowly in words than the meta model, and the error of JSON-RPC 2.0.
 NARROWER = """\
 ProgressParams = { token: integer | string; value: WorkDoneProgressBegin | WorkDoneProgressReport | WorkDoneProgressEnd |
@@ -90,7 +90,8 @@ def lines_of(recording):
 
 
 def stored_in(crate):
-    """The messages of a program's stored run, each with its place."""
+    """The messages of a program's stored run, each with its place. A content part of the client's that is no JSON is passed over: a client
+    may send one, and the server has to go on."""
     for name in ["stdin", "stdout"]:
         data = whole = (Path(crate) / name).read_bytes()
         while data:
@@ -99,10 +100,16 @@ def stored_in(crate):
             place = f"{crate}/{name}:{line}"
             try:
                 length = int(head.removeprefix(b"Content-Length: "))
-                yield place, name == "stdin", json.loads(rest[:length])
             except ValueError:
-                sys.exit(f"{place}: no message in JSON has this header and content part: {head[-60:]!r}, {rest[:60].decode(errors='replace')!r}")
-            data = rest[length:]
+                sys.exit(f"{place}: this header part has no length of a content part: {head[-60:]!r}")
+            content, data = rest[:length], rest[length:]
+            if len(content) < length:
+                sys.exit(f"{place}: the content part has {len(content)} bytes, and its header part says {length}")
+            try:
+                yield place, name == "stdin", json.loads(content)
+            except ValueError:
+                if name == "stdout":
+                    sys.exit(f"{place}: the content part is no JSON: {content[:60].decode(errors='replace')!r}")
 
 
 def recorded_in(name):

@@ -5,7 +5,7 @@ It sends 60 requests of 256 KB, or of `--length` bytes, whose replies have their
 notes the peak of the program's resident memory (Linux, `VmHWM`), and reads the first replies, which shows that the program was busy. Lists of
 `{"":0}` and lists of lists take the most memory for a byte, and a string the least.
 
-With `--searches` it requests so many lists of symbols of 1.3 MB each from `example_search jobs`, reads none, and notes how much more memory
+With `--searches` it requests so many lists of symbols of 1.4 MB each from `example_toml`, reads none, and notes how much more memory
 the program has then than before (`VmRSS`), for each byte of the results. `--times` is the most that is allowed.
 """
 import argparse
@@ -21,8 +21,8 @@ sys.dont_write_bytecode = True
 
 from lsp import INITIALIZE, INITIALIZED, built, compact, expect, frame, run, started
 
-# A symbol takes some 130 bytes.
-HEADINGS = 10_000
+# A symbol takes some 140 bytes.
+KEYS = 10_000
 LENGTH = 256_000
 COUNT = 60
 FIRST_ID = 100_000
@@ -91,9 +91,10 @@ def search(number):
 
 def searched(count):
     """How much memory results that nobody reads take, and how many bytes they have."""
-    document = {"uri": "file:///a.sums", "languageId": "sums", "version": 1, "text": "# heading\n" * HEADINGS}
+    text = "".join(f"heading_{number} = 1\n" for number in range(KEYS))
+    document = {"uri": "file:///a.toml", "languageId": "toml", "version": 1, "text": text}
     opened = {"jsonrpc": "2.0", "method": "textDocument/didOpen", "params": {"textDocument": document}}
-    with started(built("example_search", "jobs", "--stdio")) as client:
+    with started(built("example_toml", "--stdio")) as client:
         client.send_bytes(b"".join(map(frame, [INITIALIZE, INITIALIZED, compact(opened), search(FIRST_ID)])))
         # The reply to `initialize`, what is wrong with the text, and the symbols.
         length = max(len(client.body()) for _ in range(3))

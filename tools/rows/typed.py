@@ -427,6 +427,32 @@ ACTS = {
 }
 
 
+def announce_answer(text):
+    """What a table announces (LSP 3.17, "ServerCapabilities"): hovers and folds by `true`, completions and renames by their options."""
+    completion = {"triggerCharacters": json.loads(text)["triggers"]}
+    can = {"completionProvider": completion, "foldingRangeProvider": True, "hoverProvider": True, "renameProvider": {}}
+    return [f"{ordered(can)}, {{}}"]
+
+
+def answer_answer(text):
+    """A request of a method in the table is answered, and refused if its params do not fit (JSON-RPC 2.0, section 5.1). Another is returned."""
+    came = json.loads(text)
+    method, params, id = came["method"], came["params"], came["id"]
+    if method not in TABLED:
+        return [f"returned {text}, 0 answered"]
+    misfits = misfits_of(params, ["textDocument", "position"][: 1 if method == "textDocument/foldingRange" else 2])
+    misfits += ["missing field `newName`"] * (method == "textDocument/rename" and "newName" not in params)
+    return [f"refuse {id} -32602 {misfits[0]}, 0 answered" if misfits else f"reply {id} {ordered(TABLED[method](params))}, 1 answered"]
+
+
+TABLED = {
+    "textDocument/hover": ACTS["textDocument/hover"],
+    "textDocument/foldingRange": ACTS["textDocument/foldingRange"],
+    "textDocument/completion": lambda params: None,
+    "textDocument/rename": lambda params: None,
+}
+
+
 def configuration_answer(text):
     """LSP 3.17, "Configuration Request": a client is asked if it can be, and replies with a list. Of one that can't be, the settings have the
     section (VS Code's way, docs/TYPES.md)."""
@@ -657,7 +683,7 @@ ROWS = {
     "method": acts_answer, "configuration": configuration_answer, "plain": plain_answers, "typed": typed_answer,
     "uri": uri_answer, "path": path_answer, "names": names_answer, "folders": folders_answer, "tokens": tokens_answer,
     "action": action_answer, "change": change_answer, "report": report_answer, "trace": trace_answer, "register": register_answer,
-    "offset": offset_answer, "lines": lines_answer,
+    "offset": offset_answer, "lines": lines_answer, "announce": announce_answer, "answer": answer_answer,
 }
 # The values of a trace (LSP 3.17, "TraceValue").
 TRACES = ("off", "messages", "verbose")

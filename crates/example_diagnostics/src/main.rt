@@ -13,7 +13,8 @@ ghost use Rattle.lsp_acts.specs.ServerApplication.{ServerSession};
 use anyhow::{Result as Answer, bail};
 use lsp_acts::cancelled_id;
 use lsp_documents::{DocumentUpdate, SyncOptions, TextDocuments, UpdateFault};
-use lsp_methods::{Configuration, answer, from_value, publish, reply};
+use lsp_features::{Answers, announce, dispatch};
+use lsp_methods::{Configuration, from_value, publish};
 use lsp_server::clients::{ClientOptions, serve_clients};
 use lsp_server::policies::{BadContentPolicy, EndOnBadContent};
 use lsp_server::{
@@ -55,6 +56,9 @@ enum Asked {
 
 type Acts = Vec<Act<Asked>>;
 
+/// The methods that the server announces and answers.
+type Features = (HoverRequest, (DefinitionRequest, ()));
+
 impl Server for Checker {
     ghost use Rattle.std.specs.Prelude.{◌≡◌, ◌≢◌, ◌∷◌, [], Err, codes};
     ghost use Rattle.lsp_message.specs.Converted.{method_not_found};
@@ -91,16 +95,13 @@ impl Server for Checker {
 
     fn request(&mut self, request: Request) -> Result<Acts, AllocError> {
         let alloc = self.alloc;
-        match request.method.as_str() {
-            HoverRequest::METHOD if self.is_asking => {
-                self.waiting.push(request)?;
-                Ok(Vec::new(alloc))
-            }
-            HoverRequest::METHOD => self.answer_hover(request),
-            DefinitionRequest::METHOD => {
-                answer::<DefinitionRequest, _, _>(alloc, request, |params| self.definition(&params))
-            }
-            _ => Act::one(alloc, Act::method_not_found(alloc, request.id)?),
+        if self.is_asking && request.method.as_str() == HoverRequest::METHOD {
+            self.waiting.push(request)?;
+            return Ok(Vec::new(alloc));
+        }
+        match dispatch::<Features, _, _>(alloc, self, request)? {
+            Ok(acts) => Ok(acts),
+            Err(request) => Act::one(alloc, Act::method_not_found(alloc, request.id)?),
         }
     }
 
@@ -158,13 +159,11 @@ impl Checker {
     fn agree(&mut self, params: &InitializeParams) -> Result<ServerCapabilities, AllocError> {
         let client = &params.capabilities;
         self.longest.read_capabilities(client);
-        let (sync, can) = SyncOptions::with_capabilities(self.alloc, client, false)?;
+        let features = announce::<Features, _>(self.alloc, self)?;
+        let (sync, mut can) = SyncOptions::with_capabilities(self.alloc, client, false)?;
         self.documents = TextDocuments::new(self.alloc, sync);
-        Ok(ServerCapabilities {
-            hover_provider: Some(true),
-            definition_provider: Some(true),
-            ..can
-        })
+        can.more = Some(features);
+        Ok(can)
     }
 
     /// Adds the acts after a notification.
@@ -209,20 +208,9 @@ impl Checker {
 
     fn answer_waiting(&mut self, acts: &mut Acts) -> Result<(), AllocError> {
         for request in mem::replace(&mut self.waiting, Vec::new(self.alloc)) {
-            acts.append(&mut self.answer_hover(request)?)?;
+            acts.append(&mut self.request(request)?)?;
         }
         Ok(())
-    }
-
-    fn answer_hover(&self, request: Request) -> Result<Acts, AllocError> {
-        let alloc = self.alloc;
-        match from_value::<HoverParams>(alloc, &request.params)? {
-            Ok(params) => {
-                let found = self.hover(&params)?;
-                Act::one(alloc, reply::<HoverRequest, _>(alloc, request.id, &found)?)
-            }
-            Err(error) => Act::one(alloc, Act::Reply(request.id, Err(error))),
-        }
     }
 
     /// Shows which lines of a document are too long: none, if it is closed or its text is lost.
@@ -240,9 +228,16 @@ impl Checker {
         acts.push(publish(self.alloc, uri, version, found)?)?;
         Ok(())
     }
+}
 
-    /// Returns how long a line is (LSP 3.17, "Hover Request").
-    fn hover(&self, params: &HoverParams) -> Result<Option<Hover>, AllocError> {
+impl Answers<HoverRequest> for Checker {
+    ghost use Rattle.std.specs.Prelude.{◌≡◌};
+
+    // A hover changes nothing.
+    ghost answers = { λ old _ _ new. new ≡ old };
+
+    /// Returns how long a line is.
+    fn answer(&mut self, params: HoverParams) -> Result<Option<Hover>, AllocError> {
         let Some(document) = self.documents.get(params.text_document.uri.as_str()) else {
             return Ok(None);
         };
@@ -253,12 +248,16 @@ impl Checker {
         let text = format!(in self.alloc; "{length} of {} characters", self.longest.value)?;
         Ok(Some(Hover::new(MarkupKind::PlainText, text)))
     }
+}
 
-    /// Returns the heading above a line (LSP 3.17, "Goto Definition Request").
-    fn definition(
-        &self,
-        params: &DefinitionParams,
-    ) -> Result<Option<DefinitionResult>, AllocError> {
+impl Answers<DefinitionRequest> for Checker {
+    ghost use Rattle.std.specs.Prelude.{◌≡◌};
+
+    // A definition changes nothing.
+    ghost answers = { λ old _ _ new. new ≡ old };
+
+    /// Returns the heading above a line.
+    fn answer(&mut self, params: DefinitionParams) -> Result<Option<DefinitionResult>, AllocError> {
         let uri = params.text_document.uri.as_str();
         let Some(document) = self.documents.get(uri) else {
             return Ok(None);

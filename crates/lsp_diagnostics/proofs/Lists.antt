@@ -1,5 +1,5 @@
 -- Places in lists.
-use Rattle.std.proofs.Common.{◌≡◌, ◌⊎◌, refl, subst, ap, inl, inr, List, [], ◌∷◌, ◌++◌}
+use Rattle.std.proofs.Common.{◌≡◌, ◌⊎◌, refl, sym, subst, ap, inl, inr, List, [], ◌∷◌, ◌++◌}
 use Rattle.std.proofs.Common.{Option, Some, None, length, arith}
 use Rattle.std.proofs.Math.Seq.{get_or-append_seam}
 use Rattle.std.proofs.lemmas.List.{length-append}
@@ -34,6 +34,23 @@ module _ {A : Type 0} where
     | inl here ↦ here.1
     | inr there ↦ absurd (not_empty before there.0 x there.2)
   ]
+
+-- a place in two lists, one after the other: in the first or in the second
+pub place_in : {A : Type 0} (xs ys before after : List A) (x : A) → xs ++ ys ≡ before ++ x ∷ after
+    → ((rest : List A) × (after ≡ rest ++ ys) × (xs ≡ before ++ x ∷ rest))
+    ⊎ ((sooner : List A) × (before ≡ xs ++ sooner) × (ys ≡ sooner ++ x ∷ after))
+place_in [] ys before after x e = inr (before, refl, e)
+place_in (y ∷ xs) ys [] after x e =
+    let same : y ≡ x = cc (e) in
+    let more : xs ++ ys ≡ after = cc (e) in
+    inl (xs, sym more, λ k. same k ∷ xs)
+place_in {A} (y ∷ xs) ys (b ∷ before) after x e =
+    let same : y ≡ b = cc (e) in
+    let more : xs ++ ys ≡ before ++ x ∷ after = cc (e) in
+    elim (place_in xs ys before after x more) [
+      | inl there ↦ inl (there.0, there.1, λ k. same k ∷ there.2 k)
+      | inr here ↦ inr (here.0, (λ k. sym same k ∷ here.1 k), here.2)
+    ]
 
 pub some_and : {A : Type 0} (Q : A → Type 0) (o : Option A) → IsSomeAnd o Q → (x : A) × (o ≡ Some x) × Q x
 some_and Q None q = absurd q

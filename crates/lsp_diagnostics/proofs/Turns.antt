@@ -1,12 +1,9 @@
--- Through the turns of a server, each analysis under a key is of its document as it is then, and the documents are what
--- the client's notifications make of them.
+-- Through the turns of a server, each analysis under a key is of its document as it is then.
 use Rattle.serde_json.specs.Data.{Data}
 use Rattle.std.proofs.Common.{◌≡◌, refl, sym, ◌∙◌, ap, subst, inl, inr, ℕ, List, [], ◌∷◌, ◌++◌, append_assoc}
-use Rattle.std.proofs.Common.{append-nil, Bool, true, false, Option, Some, None, string_bytes, codes}
-use Rattle.std.proofs.lemmas.Slice.Eq.{bytes_eq-Decides}
+use Rattle.std.proofs.Common.{append-nil, Bool, true, false, Option, Some, None, string_bytes}
 use Rattle.std.specs.Bool.{MatchBool}
 use Rattle.std.specs.Prelude.{map as map_list, ℤ, IsSomeAnd}
-use Rattle.std.specs.Str.{bytes_eq}
 use Rattle.lsp_acts.specs.Acts.{Act, TakesBack, tells, asks, replies, cancels}
 use Rattle.lsp_acts.specs.Law.{AnswersInitialize, Initializes}
 use Rattle.lsp_acts.specs.declared.server.Server.{Ghosts as Plain}
@@ -18,7 +15,7 @@ use Rattle.lsp_documents.specs.declared.known.DocumentSnapshot.{DocumentSnapshot
 use Rattle.lsp_jobs.specs.Asking.{by_server, of_job}
 use Rattle.lsp_jobs.specs.Ends.{Came, ComesTo, End, Outcome, end_of, ended, found, gave, gave_up, out_of_memory}
 use Rattle.lsp_jobs.specs.Ends.{reply_of}
-use Rattle.lsp_jobs.specs.JobLaw.{AnswersByJobs, AreTakenAt}
+use Rattle.lsp_jobs.specs.JobLaw.{AnswersByJobs}
 use Rattle.lsp_jobs.specs.KeyedJobLaw.{AllLeaveAlone, AreTurns, IsCalled, IsLeft, IsTurn, LastStart, LeavesAlone, Left}
 use Rattle.lsp_jobs.specs.KeyedJobLaw.{MayPass, SeesLeft, Stands, StartsLast, Turn, WakeDoes, at_ends}
 use Rattle.lsp_jobs.specs.Pooled.{reply_at}
@@ -31,16 +28,16 @@ use Rattle.lsp_jobs.specs.declared.names.JobName.TheVariants.{Request, Keyed}
 use Rattle.lsp_message.specs.Id.{Id, text}
 use Rattle.lsp_message.specs.Message.{Message, request, notification, response}
 use Rattle.lsp_message.specs.Methods.{is_initialize}
-use Rattle.lsp_session.specs.Session.{Exchange, Stop as StopOfSession, came_of, offered}
+use Rattle.lsp_session.specs.Session.{Exchange, Stop as StopOfSession, offered}
 use Rattle.lsp_text.specs.Documents.{Document}
 use Rattle.lsp_text.specs.Lines.{LinedText}
 use Rattle.lsp_types.specs.declared.diagnostics.Diagnostic.{Diagnostic}
-use Rattle.lsp_diagnostics.proofs.Heard.{follow_none}
+use Rattle.lsp_diagnostics.proofs.Heard.{follow_none, follow_same, still}
+use Rattle.lsp_diagnostics.proofs.Kept.{opened}
 use Rattle.lsp_diagnostics.proofs.Lists.{not_empty, only, place, some_and}
 use Rattle.lsp_diagnostics.proofs.Sends.{by_an_act}
-use Rattle.lsp_diagnostics.specs.Applied.{Applies, AppliesAll}
 use Rattle.lsp_diagnostics.specs.Followed.{Follow, IsCopyOf, IsCurrent, known, shows}
-use Rattle.lsp_diagnostics.specs.Shown.{KeepsBoth, ShowsFindings, ShowsHeld, ShowsOpenTexts, shows_method}
+use Rattle.lsp_diagnostics.specs.Shown.{FollowsIn, ShowsFindings, ShowsHeld, ShowsOpenTexts, shows_method}
 use Rattle.lsp_diagnostics.specs.declared.findings.Findings.{Findings}
 
 -- what is told is what the server told
@@ -85,24 +82,6 @@ module _ {S J P : Type 0} (documents : S → TextDocuments) (commands : S → Li
   alone_last key (x ∷ rest) t all =
       let more = alone_last key rest t all.1 in ((all.0, more.0), more.1)
 
-  -- a job whose key has no command analyses its document still
-  still : (before now : Documents) (changes : List (JobCommand J)) (key : Id) (job : J)
-      → Follow source before changes now → LeavesAlone key changes → IsCurrent source before key job
-      → IsCurrent source now key job
-  still before now changes key job follow alone was = at (source job) was
-    where
-      at : (o : Option DocumentSnapshot)
-          → IsSomeAnd o (λ copy. (key ≡ text (string_bytes copy.uri))
-          × IsSomeAnd (known before (string_bytes copy.uri)) (IsCopyOf copy))
-          → IsSomeAnd o (λ copy. (key ≡ text (string_bytes copy.uri))
-          × IsSomeAnd (known now (string_bytes copy.uri)) (IsCopyOf copy))
-      at None never = absurd never
-      at (Some copy) is = (
-        is.0,
-        subst (λ (k : Option Document). IsSomeAnd k (IsCopyOf copy))
-            (sym (follow.others (string_bytes copy.uri) (subst (λ (s : Id). LeavesAlone s changes) is.0 alone))) is.1,
-      )
-
   right_on : (before now : Documents) (earlier : List (Turn plain may)) (t : Turn plain may) → Right earlier before
       → Follow source before t.changes now → Right (earlier ++ t ∷ []) now
   right_on before now earlier t right follow key job last =
@@ -111,7 +90,7 @@ module _ {S J P : Type 0} (documents : S → TextDocuments) (commands : S → Li
             (subst (λ (x : Turn plain may). StartsLast x.changes key job) here.1 last.started)
         | inr there ↦
             let alone = alone_last key there.0 t (subst (AllLeaveAlone plain may key) there.1 last.alone) in
-            still before now t.changes key job follow alone.1 (right key job (record {
+            still source before now t.changes key job follow alone.1 (right key job (record {
               before = last.before;
               turn = last.turn;
               since = there.0;
@@ -128,59 +107,67 @@ module _ {S J P : Type 0} (documents : S → TextDocuments) (commands : S → Li
       subst (λ (x : List (JobCommand J) × TextDocuments). Follow source before x.0 (documents_of x.1))
       (λ k. (sym same k, sym are k)) follow
 
-  stay : (old new : S) → commands old ≡ [] → KeepsBoth documents commands old new
+  -- where no command was left before
+  from_none : (old new : S) → commands old ≡ [] → FollowsIn documents commands source old new
       → Follow source (documents_of (documents old)) (commands new) (documents_of (documents new))
-  stay old new none same =
-      follow_as (documents_of (documents old)) (commands old) (commands new) (documents old) (documents new)
-      (follow_none source (documents_of (documents old)) (commands old) none) same.1 same.0
+  from_none old new none follow =
+      follow (documents_of (documents old)) (follow_none source (documents_of (documents old)) (commands old) none)
 
-  keeps : (a b c : S) → KeepsBoth documents commands a b → KeepsBoth documents commands b c
-      → KeepsBoth documents commands a c
+  -- neither the documents nor the commands change
+  abbrev KeepsBoth : S → S → Type 0
+  KeepsBoth old new = (documents new ≡ documents old) × (commands new ≡ commands old)
+
+  keeps : (a b c : S) → KeepsBoth a b → KeepsBoth b c
+      → KeepsBoth a c
   keeps a b c first next = (next.0 ∙ first.0, next.1 ∙ first.1)
 
-  keeps_as : (a b : S) → b ≡ a → KeepsBoth documents commands a b
+  keeps_as : (a b : S) → b ≡ a → KeepsBoth a b
   keeps_as a b same = (ap documents same, ap commands same)
 
   module _ (states : ShowsFindings documents commands written are source plain may) where
     -- the end of a job changes neither
     same_at_end : (old : S) (name : JobName) (end : End Findings) (acts : List (Act P)) (new : S)
-        → SeesEnd may old name end acts new → KeepsBoth documents commands old new
-    same_at_end old name (found it) acts new saw = (states.finds old name it acts new saw).1
-    same_at_end old name (ended end) acts new saw = (states.ends old name end acts new saw).1
+        → SeesEnd may old name end acts new → KeepsBoth old new
+    same_at_end old name (found it) acts new saw =
+        (states.keeps.finds old name it acts new saw, (states.finds old name it acts new saw).1)
+    same_at_end old name (ended end) acts new saw =
+        (states.keeps.ends old name end acts new saw, (states.ends old name end acts new saw).1)
 
     called_follow : (old : S) (came : Option Message) (at : Option JobName) (acts : List (Act P)) (now : S)
-        → commands old ≡ [] → IsCalled plain may old came at acts now
-        → Follow source (documents_of (documents old)) (commands now) (documents_of (documents now))
-    called_follow old (Some (request id method params)) at acts now none itself =
-        stay old now none (states.requested old id method params acts now itself.1)
-    called_follow old (Some (notification method params)) at acts now none heard = elim heard.0 [
-      | inl does ↦ (states.applies old method params acts now does).1 none
-      | inr began ↦ stay old now none (states.begins old acts now began.1)
+        → IsCalled plain may old came at acts now → FollowsIn documents commands source old now
+    called_follow old (Some (request id method params)) at acts now itself =
+        states.requested old id method params acts now itself.1
+    called_follow old (Some (notification method params)) at acts now heard = elim heard.0 [
+      | inl does ↦ states.notified old method params acts now does
+      | inr began ↦ states.begins old acts now began.1
     ]
-    called_follow old (Some (response id outcome)) at acts now none replied =
-        (states.replied old replied.0 outcome acts now replied.1).1 none
-    called_follow old None at acts now none e =
-        stay old now none (same_at_end old e.0 (end_of e.1) e.2 now e.3)
+    called_follow old (Some (response id outcome)) at acts now replied =
+        states.replied old replied.0 outcome acts now replied.1
+    called_follow old None at acts now e =
+        let same = same_at_end old e.0 (end_of e.1) e.2 now e.3 in
+        follow_same source (commands old) (commands now) (documents old) (documents now) same.0 same.1
 
     sees : (made : S) (left : List (Left may)) (new : S) → SeesLeft plain may made left new
-        → KeepsBoth documents commands made new
+        → KeepsBoth made new
     sees made [] new same = keeps_as made new same
     sees made (l ∷ ls) new all =
         keeps made l.old new (keeps_as made l.old all.0)
         (keeps l.old l.new new (same_at_end l.old (Keyed l.key) l.end l.acts l.new l.saw) (sees l.new ls new all.1))
 
     taken : (payloads : List P) (old new : S) → TakesBack plain.ids_exhausted_post old payloads new
-        → KeepsBoth documents commands old new
+        → KeepsBoth old new
     taken [] old new same = keeps_as old new same
     taken (payload ∷ payloads) old new back =
-        keeps old back.0 new (states.took_back old payload back.0 back.1) (taken payloads back.0 new back.2)
+        keeps old back.0 new
+        (states.keeps.took_back old payload back.0 back.1, states.took_back old payload back.0 back.1)
+        (taken payloads back.0 new back.2)
 
     -- before a turn no command is left to be taken, and each job under a key is right
     record Good (earlier : List (Turn plain may)) (now : S) : Type 0 where
       none : commands now ≡ []
       right : Right earlier (documents_of (documents now))
 
-    good_as : (earlier : List (Turn plain may)) (old new : S) → KeepsBoth documents commands old new → Good earlier old
+    good_as : (earlier : List (Turn plain may)) (old new : S) → KeepsBoth old new → Good earlier old
         → Good earlier new
     good_as earlier old new same good = record {
       none = same.1 ∙ good.none;
@@ -191,13 +178,15 @@ module _ {S J P : Type 0} (documents : S → TextDocuments) (commands : S → Li
         → Good (earlier ++ t ∷ []) t.new
     good_on earlier t good (inl did) =
         let gave = states.commanded t.asked t.changes t.made did.2 in
+        let kept = states.keeps.commanded t.asked t.changes t.made did.2 in
         let same = sees t.made t.left t.new did.3 in
-        let follow = called_follow t.old t.call.came t.heard did.0 t.asked good.none did.1 in
+        let follow = from_none t.old t.asked good.none
+        (called_follow t.old t.call.came t.heard did.0 t.asked did.1) in
         record {
           none = same.1 ∙ gave.1;
           right = right_on (documents_of (documents t.old)) (documents_of (documents t.new)) earlier t good.right
               (follow_as (documents_of (documents t.old)) (commands t.asked) t.changes (documents t.asked)
-              (documents t.new) follow gave.0 (same.0 ∙ gave.2));
+              (documents t.new) follow gave.0 (same.0 ∙ kept));
         }
     good_on earlier t good (inr passed) =
         let same = keeps_as t.old t.new passed.3 in
@@ -325,73 +314,20 @@ module _ {S J P : Type 0} (documents : S → TextDocuments) (commands : S → Li
           (cancels (of_job c.0)) (sym c.1 ∙ at) in
           absurd (cc (one))
 
-    -- what came makes of the documents what it says
-    no_document : (old new : S) (method : List ℕ) (params : Data)
-        → bytes_eq method (codes "initialized") ≡ true → documents new ≡ documents old
-        → Applies (documents old) (Some (notification method params)) (documents new)
-    no_document old new method params is same =
-        subst (λ (m : List ℕ). Applies (documents old) (Some (notification m params)) (documents new))
-        (sym ((bytes_eq-Decides method (codes "initialized")).0 is)) same
-
-    called_applies : (old : S) (came : Option Message) (at : Option JobName) (acts : List (Act P)) (now : S)
-        → IsCalled plain may old came at acts now → Applies (documents old) came (documents now)
-    called_applies old (Some (request id method params)) at acts now itself =
-        (states.requested old id method params acts now itself.1).0
-    called_applies old (Some (notification method params)) at acts now heard = elim heard.0 [
-      | inl does ↦ (states.applies old method params acts now does).0
-      | inr began ↦ no_document old now method params began.0 (states.begins old acts now began.1).0
-    ]
-    called_applies old (Some (response id outcome)) at acts now replied =
-        (states.replied old replied.0 outcome acts now replied.1).0
-    called_applies old None at acts now e = (same_at_end old e.0 (end_of e.1) e.2 now e.3).0
-
-    passed_applies : (old : S) (came : Option Message) (acts : List (Act (RequestOrigin P))) (new : S)
-        → MayPass plain may old came acts → new ≡ old → Applies (documents old) came (documents new)
-    passed_applies old (Some (request id method params)) acts new passes same = ap documents same
-    passed_applies old (Some (notification method params)) acts new passes same = absurd passes
-    passed_applies old (Some (response id outcome)) acts new passes same = ap documents same
-    passed_applies old None acts new passes same = ap documents same
-
-    turn_applies : (t : Turn plain may) → IsTurn plain may t
-        → Applies (documents t.old) t.call.came (documents t.new)
-    turn_applies t (inl did) =
-        let kept : documents t.new ≡ documents t.asked =
-        (sees t.made t.left t.new did.3).0 ∙ (states.commanded t.asked t.changes t.made did.2).2 in
-        subst (Applies (documents t.old) t.call.came) (sym kept)
-        (called_applies t.old t.call.came t.heard did.0 t.asked did.1)
-    turn_applies t (inr pass) = passed_applies t.old t.call.came t.call.acts t.new pass.0 pass.3
-
-    all_applied : (start now : S) (xs : List Exchange) (turns : List (Turn plain may))
-        → AreTakenAt plain may xs turns → AreTurns plain may start turns now
-        → AppliesAll (documents start) (came_of xs) (documents now)
-    all_applied start now [] [] at linked = (taken linked.0 start now linked.1).0
-    all_applied start now [] (t ∷ turns) at linked = absurd at
-    all_applied start now (x ∷ xs) [] at linked = absurd at
-    all_applied start now (x ∷ xs) (t ∷ turns) at linked = (
-      documents t.new,
-      subst (λ (y : TextDocuments × Option Message). Applies y.0 y.1 (documents t.new))
-          (λ k. ((taken linked.0.0 start t.old linked.0.1).0 k, at.0.0 k)) (turn_applies t linked.1),
-      all_applied t.new now xs turns at.1 linked.2,
-    )
-
-    -- at the result of `initialize` no document is open, and no command is left to be taken
-    abbrev Fresh : S → Type 0
-    Fresh s = (commands s ≡ []) × HasNone (documents s)
-
-    fresh_start : (early : List Exchange) (old start : S) → Fresh old
-        → AnswersInitialize plain old early start → Fresh start
-    fresh_start [] old start fresh same = subst Fresh (sym same) fresh
+    -- at the result of `initialize` no command is left to be taken
+    fresh_start : (early : List Exchange) (old start : S) → commands old ≡ []
+        → AnswersInitialize plain old early start → commands start ≡ []
+    fresh_start [] old start fresh same = ap commands same ∙ fresh
     fresh_start (x ∷ early) old start fresh run = fresh_start early run.0 start (at x.came run.1) run.2
       where
         by : (b : Bool) (m : Message) → MatchBool b (Initializes plain old m (offered x) run.0) (run.0 ≡ old)
-            → Fresh run.0
-        by true m i =
-            let gave = states.initializes old i.params i.outcome run.0 i.gave in (gave.1 ∙ fresh.0, gave.0)
-        by false m same = subst Fresh (sym same) fresh
+            → commands run.0 ≡ []
+        by true m i = states.initializes old i.params i.outcome run.0 i.gave ∙ fresh
+        by false m same = ap commands same ∙ fresh
 
         at : (came : Option Message)
             → IsSomeAnd came (λ m. MatchBool (is_initialize m) (Initializes plain old m (offered x) run.0)
-            (run.0 ≡ old)) → Fresh run.0
+            (run.0 ≡ old)) → commands run.0 ≡ []
         at None never = absurd never
         at (Some m) answered = by (is_initialize m) m answered
 
@@ -401,9 +337,8 @@ module _ {S J P : Type 0} (documents : S → TextDocuments) (commands : S → Li
     all_shown first stop exchanges none empty jobs earlier later x before after params cut woken sent =
         let w = (jobs earlier later x cut woken).0 in
         let led = w.led in
-        let fresh = fresh_start led.early first led.start (none, empty) led.initialized in
         let good : Good w.turns w.turn.old = good_all led.start w.turn.old [] w.turns (record {
-          none = fresh.0;
+          none = fresh_start led.early first led.start none led.initialized;
           right = λ key job last. absurd (not_empty last.before last.since last.turn last.cut);
         }) led.linked in
         let has = by_an_act w.turn.call.acts w.sent.0 params before (after ++ w.lost)
@@ -412,15 +347,7 @@ module _ {S J P : Type 0} (documents : S → TextDocuments) (commands : S → Li
         let shown = shows_held w.turn w.turns good has.0 has.1 params has.2 w.does in
         record {
           documents = documents w.turn.old;
-          opened = record {
-            early = led.early;
-            later = led.later;
-            cut = led.cut;
-            result = led.result;
-            first = documents led.start;
-            none = fresh.1;
-            made = all_applied led.start w.turn.old led.later w.turns led.taken led.linked;
-          };
+          opened = opened documents plain may states.keeps first earlier w.turns w.turn.old empty led;
           shown = record {
             uri = shown.uri;
             document = shown.document;

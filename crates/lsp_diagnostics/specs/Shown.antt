@@ -6,7 +6,6 @@ use Rattle.lsp_acts.specs.Acts.{Act, tells}
 use Rattle.lsp_acts.specs.declared.server.Server.{Ghosts as Plain}
 use Rattle.lsp_documents.specs.Held.{documents_of}
 use Rattle.lsp_documents.specs.Notices.{Documents}
-use Rattle.lsp_documents.specs.Sessions.{HasNone}
 use Rattle.lsp_documents.specs.declared.documents.TextDocuments.{TextDocuments}
 use Rattle.lsp_documents.specs.declared.known.DocumentSnapshot.{DocumentSnapshot}
 use Rattle.lsp_jobs.specs.Ends.{Outcome}
@@ -20,8 +19,9 @@ use Rattle.lsp_session.specs.Session.{Exchange, offered}
 use Rattle.lsp_text.specs.Documents.{Document}
 use Rattle.lsp_text.specs.Lines.{LinedText}
 use Rattle.lsp_types.specs.declared.diagnostics.Diagnostic.{Diagnostic}
-use Rattle.lsp_diagnostics.specs.Applied.{Applies, Opened}
-use Rattle.lsp_diagnostics.specs.Followed.{Follow, known, shows}
+use Rattle.lsp_diagnostics.specs.Applied.{Opened}
+use Rattle.lsp_diagnostics.specs.Followed.{FollowOn, known, shows}
+use Rattle.lsp_diagnostics.specs.Kept.{KeepsTexts}
 use Rattle.lsp_diagnostics.specs.declared.findings.Findings.{Findings}
 
 -- the method of the notification that shows diagnostics
@@ -59,36 +59,33 @@ module _ (are : LinedText → List Data → Type 0) where
 
 -- Where a server keeps its documents, and the commands that are to be taken.
 module _ {S J : Type 0} (documents : S → TextDocuments) (commands : S → List (JobCommand J)) where
-  -- nothing of these changes
-  abbrev pub KeepsBoth : S → S → Type 0
-  KeepsBoth old new = (documents new ≡ documents old) × (commands new ≡ commands old)
-
-  -- The commands followed the documents, if none was left before.
+  -- The commands follow the documents, as `FollowOn` says.
   abbrev pub FollowsIn : (J → Option DocumentSnapshot) → S → S → Type 0
-  FollowsIn source old new = commands old ≡ [] → Follow source (documents_of (documents old)) (commands new)
+  FollowsIn source old new = FollowOn source (commands old) (documents_of (documents old)) (commands new)
       (documents_of (documents new))
 
   -- What a server and its jobs state. `written` is how diagnostics are written.
   pub record ShowsFindings {P : Type 0} (written : Diagnostic → Data) (are : LinedText → List Data → Type 0)
       (source : J → Option DocumentSnapshot) (plain : Plain S P) (may : StatedJobs S J Findings P) : Type 0 where
+    pub keeps : KeepsTexts documents plain may
     pub initializes : (old : S) (params : Data) (outcome : Outcome) (new : S)
-        → plain.initialize_post old params outcome new → HasNone (documents new) × (commands new ≡ commands old)
-    pub begins : (old : S) (acts : List (Act P)) (new : S) → plain.initialized_post old acts new → KeepsBoth old new
+        → plain.initialize_post old params outcome new → commands new ≡ commands old
+    pub begins : (old : S) (acts : List (Act P)) (new : S) → plain.initialized_post old acts new
+        → FollowsIn source old new
     pub requested : (old : S) (id : Id) (method : List ℕ) (params : Data) (acts : List (Act P)) (new : S)
-        → plain.request_post old id method params acts new → KeepsBoth old new
-    pub applies : (old : S) (method : List ℕ) (params : Data) (acts : List (Act P)) (new : S)
-        → plain.notification_post old method params acts new
-        → Applies (documents old) (Some (notification method params)) (documents new) × FollowsIn source old new
+        → plain.request_post old id method params acts new → FollowsIn source old new
+    pub notified : (old : S) (method : List ℕ) (params : Data) (acts : List (Act P)) (new : S)
+        → plain.notification_post old method params acts new → FollowsIn source old new
     pub replied : (old : S) (payload : P) (outcome : Outcome) (acts : List (Act P)) (new : S)
-        → plain.response_post old payload outcome acts new
-        → (documents new ≡ documents old) × FollowsIn source old new
-    pub took_back : (old : S) (payload : P) (new : S) → plain.ids_exhausted_post old payload new → KeepsBoth old new
+        → plain.response_post old payload outcome acts new → FollowsIn source old new
+    pub took_back : (old : S) (payload : P) (new : S) → plain.ids_exhausted_post old payload new
+        → commands new ≡ commands old
     pub commanded : (old : S) (taken : List (JobCommand J)) (new : S) → may.take_commands_post old taken new
-        → (taken ≡ commands old) × (commands new ≡ []) × (documents new ≡ documents old)
+        → (taken ≡ commands old) × (commands new ≡ [])
     pub finds : (old : S) (name : JobName) (found : Findings) (acts : List (Act P)) (new : S)
-        → may.found_post old name found acts new → Shows written found acts × KeepsBoth old new
+        → may.found_post old name found acts new → Shows written found acts × (commands new ≡ commands old)
     pub ends : (old : S) (name : JobName) (end : JobEnd) (acts : List (Act P)) (new : S)
-        → may.ended_post old name end acts new → (acts ≡ []) × KeepsBoth old new
+        → may.ended_post old name end acts new → (acts ≡ []) × (commands new ≡ commands old)
     pub answers : (job : J) (method : List ℕ) (params : Data) → may.is_for job method params → source job ≡ None
     pub runs : (job : J) (reply : Option Outcome) (found : Findings) → may.run_post job reply (Some found)
         → (source job ≡ Some found.source) × are (arc_value found.source.text) (map written found.diagnostics.items)

@@ -1,5 +1,0 @@
-mod Aloud
-mod Applied
-mod Known
-mod Searches
-mod Symbols

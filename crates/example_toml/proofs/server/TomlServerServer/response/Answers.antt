@@ -1,0 +1,8 @@
+use Rattle.example_toml.proofs.Acts.{then_does}
+use Rattle.example_toml.proofs.server.TomlServerServer.response.Goals as goal
+
+pub returns : goal.returns
+returns c =
+    let taken = c.in_ok-more.ensures in
+    then_does _ _ _ _ _ _ c.in_ok-acts.ensures c.in_ok-append.ensures.items
+    (c.take_settings.ensures.same, taken.follow, taken.acts)

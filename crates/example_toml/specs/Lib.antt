@@ -1,0 +1,6 @@
+pub mod Jobs
+pub mod Problems
+pub mod Reactions
+pub mod Replies
+pub mod Searches
+pub mod Sessions
