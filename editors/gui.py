@@ -12,7 +12,7 @@ from pathlib import Path
 sys.dont_write_bytecode = True
 sys.path.append(str(Path(__file__).resolve().parent.parent / "tests"))
 
-TEXT = "# prices\napple = 3\ntotal = apple + 4 - nope\n"
+TEXT = "[prices]\napple = 3\ntotal = { apple = 3, }\npear = nope\n"
 RETURNS = "x = 1\r\ny = nope\r\n"
 COMMAND = os.environ["LSP_SERVER"].split()
 HOME = Path(os.environ["HOME"])
@@ -24,7 +24,7 @@ SCREENS = {"kate": 61, "qtcreator": 62, "geany": 64, "spyder": 67}
 class Gui:
     """A screen, and the processes on it. They end with it."""
 
-    def __init__(self, editor, ending="sums"):
+    def __init__(self, editor, ending="toml"):
         self.files = [HOME / f"a.{ending}", HOME / f"dos.{ending}"]
         for file, text in zip(self.files, [TEXT, RETURNS]):
             file.write_bytes(text.encode())
@@ -102,16 +102,16 @@ class Gui:
         """Types, with letters of two units, undoes, saves at once behind the last key, types quickly, doubles the text, and undoes much.
         `more` are keys for further edits."""
         self.key("ctrl+End")
-        self.type("pear = apple + 1\n")
-        self.paste("emoji😀é = 5\n")
-        self.type("q = emoji")
+        self.type("plum = 1\n")
+        self.paste('"emoji😀é" = 5\n')
+        self.type("q = 'emoji")
         self.paste("😀é")
         self.key("Left", "Left", "BackSpace")
         self.type("x")
         self.key(*["ctrl+z"] * 4, redo, redo, "ctrl+s")
         time.sleep(1)
         self.key("ctrl+Home", *more, "ctrl+End")
-        self.type("\n".join(f"n{number} = {number} + 1" for number in range(60)) + "\n", delay=0)
+        self.type("\n".join(f"n{number} = {number}" for number in range(60)) + "\n", delay=0)
         time.sleep(2)
         self.key("ctrl+s", "ctrl+a", "ctrl+c", "ctrl+End", "ctrl+v", "ctrl+s")
         time.sleep(1)
@@ -126,9 +126,35 @@ class Gui:
         self.key("ctrl+Home")
         self.type("z = 2\n")
         self.key("ctrl+End")
-        self.paste("é = 3\nw = nope\n")
+        self.paste('"é" = 3\nw = nope\n')
         self.key("ctrl+s")
         time.sleep(1)
+
+    def messages(self):
+        """What passed so far: whether the client sent it, and the message."""
+        name = Path(f"{COMMAND[1]}.1.lsp")
+        lines = name.read_text(encoding="utf-8").split("\n")[:-1] if name.exists() else []
+        return [(line.startswith("->"), json.loads(line[3:])) for line in lines]
+
+    def replied(self, method):
+        """The results of all requests of this method."""
+        asked = [message["id"] for of_client, message in self.messages() if of_client and message.get("method") == method and "id" in message]
+        return [message["result"] for of_client, message in self.messages()
+                if not of_client and "method" not in message and message["id"] in asked and "result" in message]
+
+    def note(self, what, holds):
+        print(f"{what}: {'yes' if holds else 'NO'}", flush=True)
+        if not holds:
+            sys.exit(1)
+
+    def marks(self, count, seconds=20):
+        """Waits until so many marks are published for the first file. It has one, and one more unless the settings say TOML 1.1."""
+        end, shown = time.monotonic() + seconds, []
+        while shown[-1:] != [count] and time.monotonic() < end:
+            time.sleep(0.3)
+            told = [message["params"] for _, message in self.messages() if message.get("method") == "textDocument/publishDiagnostics"]
+            shown = [len(params["diagnostics"]) for params in told if params["uri"].endswith(f"/{self.files[0].name}")]
+        self.note(f"{count} marks, at last of {shown}", shown[-1:] == [count])
 
     def ends(self, process, status):
         """The editor ends, and its server with this status, or is killed. Then the session is held once more, by `recordings_client.py`,
@@ -140,4 +166,4 @@ class Gui:
             sys.exit(f"the server's status is not {status}")
         from recordings_client import replays  # here, since it asks for the built programs
 
-        print("texts and replies:", replays(Path(f"{name}.lsp"), ["example_search", *COMMAND[3:]]))
+        print("texts and replies:", replays(Path(f"{name}.lsp"), ["example_toml", *COMMAND[3:]]))

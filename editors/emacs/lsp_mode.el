@@ -1,8 +1,8 @@
-;;; lsp_mode.el --- `example_search' in lsp-mode  -*- lexical-binding: t; -*-
+;;; lsp_mode.el --- `example_toml' in lsp-mode  -*- lexical-binding: t; -*-
 
 ;; Starts the server as lsp-mode does: marks, a hover, edits, undos and a file that is read again. The server's text has to be the buffer's.
 ;;   LSP_SERVER="program argument .." emacs --batch -l editors/emacs/lsp_mode.el
-;; Without LSP_SERVER it is `crates/example_search/out/example_search'. Ends in status 1 where it is otherwise.
+;; Without LSP_SERVER it is `crates/example_toml/out/example_toml'. Ends in status 1 where it is otherwise.
 
 (require 'package)
 (package-initialize)
@@ -11,14 +11,11 @@
 (require 'lsp-mode)
 
 (defvar command
-  (let ((words (split-string (or (getenv "LSP_SERVER") "crates/example_search/out/example_search"))))
+  (let ((words (split-string (or (getenv "LSP_SERVER") "crates/example_toml/out/example_toml"))))
     (cons (expand-file-name (car words)) (mapcar (lambda (word) (if (string-search "/" word) (expand-file-name word) word)) (cdr words)))))
-(defvar folder (make-temp-file "sums" t))
+(defvar folder (make-temp-file "toml" t))
 (defvar good t)
 
-(define-derived-mode sums-mode prog-mode "Sums")
-(add-to-list 'auto-mode-alist '("\\.sums\\'" . sums-mode))
-(add-to-list 'lsp-language-id-configuration '(sums-mode . "sums"))
 (setq lsp-auto-guess-root t
       lsp-guess-root-without-session t
       lsp-session-file (expand-file-name "session" folder)
@@ -28,12 +25,12 @@
       lsp-keep-workspace-alive nil
       lsp-headerline-breadcrumb-enable nil
       create-lockfiles nil)
-(lsp-register-custom-settings '(("sums.largest" 20)))
+(lsp-register-custom-settings '(("toml.version" "1.1")))
 (lsp-register-client
  (make-lsp-client :new-connection (lsp-stdio-connection (lambda () command))
-                  :activation-fn (lsp-activate-on "sums")
-                  :server-id 'sums
-                  :synchronize-sections '("sums")))
+                  :activation-fn (lsp-activate-on "toml")
+                  :server-id 'toml
+                  :synchronize-sections '("toml")))
 
 (defun note (what holds)
   (setq good (and good holds))
@@ -46,27 +43,27 @@
     (funcall holds)))
 
 (defun is-held ()
-  (equal (lsp-request "sums/text" (list :textDocument (lsp--text-document-identifier)))
+  (equal (lsp-request "toml/text" (list :textDocument (lsp--text-document-identifier)))
          (buffer-substring-no-properties (point-min) (point-max))))
 
 (defun marks ()
   (length (seq-uniq (gethash (lsp--fix-path-casing buffer-file-name) (lsp-diagnostics)))))
 
-(let ((file (expand-file-name "p.sums" folder)) (right t))
-  (write-region "a = 3\nb = a + 30\n𝒙 = b + pear\n" nil file nil 'quiet)
+(let ((file (expand-file-name "p.toml" folder)) (right t))
+  (write-region "a = 3\nb = { a = 30, }\n\"𝒙\" = pear\n" nil file nil 'quiet)
   (lsp-workspace-folders-add folder)
   (find-file file)
   (buffer-enable-undo)
   (lsp)
   (note "it begins" (await (lambda () (and (lsp-workspaces) (eq 'initialized (lsp--workspace-status (car (lsp-workspaces))))))))
-  (note "two marks" (await (lambda () (= 2 (marks)))))
+  (note "one mark, since the settings allow the other" (await (lambda () (= 1 (marks)))))
   (goto-char (point-min))
   (forward-line 1)
-  (note "a hover" (equal (lsp-get (lsp-get (lsp-request "textDocument/hover" (lsp--text-document-position-params)) :contents) :value) "b = 33"))
+  (note "a hover" (equal (lsp-get (lsp-get (lsp-request "textDocument/hover" (lsp--text-document-position-params)) :contents) :value) "b: inline table"))
   (dotimes (step 60)
     (undo-boundary)
     (goto-char (1+ (% (* step 37) (point-max))))
-    (insert (nth (% step 5) '("a" "𝒙 = 1\n" "é" "\n" "😀ß")))
+    (insert (nth (% step 5) '("a" "\"𝒙\" = 1\n" "é" "\n" "😀ß")))
     (unless (eobp) (delete-char 1))
     (setq right (and right (is-held))))
   (setq pending-undo-list buffer-undo-list)

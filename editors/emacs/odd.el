@@ -1,14 +1,14 @@
 ;;; odd.el --- Texts where eglot parts with LSP 3.17  -*- lexical-binding: t; -*-
 
 ;; A buffer that is narrowed is edited and saved, and one has carriage returns within its lines. After each edit the text of
-;; `example_search' has to be the buffer's, or the server tells that it may not be, at the latest at a save.
+;; `example_toml' has to be the buffer's, or the server tells that it may not be, at the latest at a save.
 ;;   LSP_SERVER="program argument .." emacs --batch -l editors/emacs/odd.el
-;; Without LSP_SERVER it is `crates/example_search/out/example_search'. Ends in status 1 where a text differs and nothing was told.
+;; Without LSP_SERVER it is `crates/example_toml/out/example_toml'. Ends in status 1 where a text differs and nothing was told.
 
 (require 'eglot)
 
 (defvar command
-  (let ((words (split-string (or (getenv "LSP_SERVER") "crates/example_search/out/example_search"))))
+  (let ((words (split-string (or (getenv "LSP_SERVER") "crates/example_toml/out/example_toml"))))
     (cons (expand-file-name (car words)) (cdr words))))
 (defvar good t)
 (defvar told nil "What the server had the client log.")
@@ -21,7 +21,7 @@
 
 (defun held ()
   (eglot--signal-textDocument/didChange)
-  (jsonrpc-request (eglot-current-server) :sums/text (list :textDocument (eglot--TextDocumentIdentifier)) :timeout 20))
+  (jsonrpc-request (eglot-current-server) :toml/text (list :textDocument (eglot--TextDocumentIdentifier)) :timeout 20))
 
 (defun note (what holds)
   (setq good (and good holds))
@@ -30,9 +30,7 @@
 (defun says (words)
   (seq-some (lambda (message) (string-search words message)) told))
 
-(define-derived-mode sums-mode prog-mode "Sums")
-(add-to-list 'auto-mode-alist '("\\.sums\\'" . sums-mode))
-(add-to-list 'eglot-server-programs (cons 'sums-mode command))
+(add-to-list 'eglot-server-programs (cons '(conf-toml-mode :language-id "toml") command))
 (prefer-coding-system 'utf-8-unix)
 (setq eglot-sync-connect t eglot-send-changes-idle-time 1000 make-backup-files nil create-lockfiles nil auto-save-default nil)
 
@@ -40,8 +38,8 @@
   (let ((coding-system-for-write 'utf-8-unix)) (write-region text nil name nil 'quiet))
   (let ((coding-system-for-read 'utf-8-unix)) (find-file name)))
 
-(let ((folder (make-temp-file "sums" t)))
-  (visit (expand-file-name "narrow.sums" folder) "apple = 3\ngröße = apple\n𝒙 = 1\n# 😀\n")
+(let ((folder (make-temp-file "toml" t)))
+  (visit (expand-file-name "narrow.toml" folder) "apple = 3\n\"größe\" = \"apple\"\n\"𝒙\" = 1\n# 😀\n")
   (apply #'eglot (eglot--guess-contact))
   (goto-char (point-min))
   (forward-line 1)
@@ -57,7 +55,7 @@
   (widen)
 
   (setq told nil)
-  (visit (expand-file-name "returns.sums" folder) "apple = 3\rpear = 4\ngröße = apple\n𝒙 = 1\n")
+  (visit (expand-file-name "returns.toml" folder) "apple = 3\rpear = 4\n\"größe\" = \"apple\"\n\"𝒙\" = 1\n")
   (let ((server (eglot-current-server)) (edits 0) (same t))
     (unless server (eglot--maybe-activate-editing-mode))
     (while (and same (< edits 40))

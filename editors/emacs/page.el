@@ -1,11 +1,11 @@
 ;;; page.el --- The settings for Emacs that docs/EDITORS.md shows  -*- lexical-binding: t; -*-
 
-;; The server is started in a file, and marks what the settings ask for.
+;; The server is started in a file, and marks one fault. Without the settings it would mark two.
 ;;   LSP_SERVER="program argument .." emacs --batch -l editors/emacs/page.el
 ;; Ends in status 1 if no marks came. lsp_mode.el tries the lines for lsp-mode.
 
 (defvar command
-  (let ((words (split-string (or (getenv "LSP_SERVER") "crates/example_search/out/example_search"))))
+  (let ((words (split-string (or (getenv "LSP_SERVER") "crates/example_toml/out/example_toml"))))
     (cons (expand-file-name (car words)) (cdr words))))
 (setq create-lockfiles nil)
 
@@ -16,17 +16,17 @@
     (erase-buffer)
     (insert block)
     (goto-char (point-min))
-    (search-forward "\"/path/to/example_search\"")
+    (search-forward "\"/path/to/example_toml\"")
     (replace-match (mapconcat #'prin1-to-string command " ") t t)
     (eval-buffer)))
 
-(let* ((folder (make-temp-file "sums" t)) (file (expand-file-name "a.sums" folder)) (end (+ (float-time) 10)) (good nil))
-  (write-region "apple = 30\nb = pear\n" nil file nil 'quiet)
+(let* ((folder (make-temp-file "toml" t)) (file (expand-file-name "a.toml" folder)) (end (+ (float-time) 10)) (good nil))
+  (write-region "a = { b = 1, }\nc = pear\n" nil file nil 'quiet)
   (setq eglot-sync-connect t)
   (find-file file)
   (apply #'eglot (eglot--guess-contact))
   (flymake-start)
-  (while (and (not (setq good (= 2 (length (flymake-diagnostics))))) (< (float-time) end))
+  (while (and (not (setq good (= 1 (length (flymake-diagnostics))))) (< (float-time) end))
     (accept-process-output nil 0.02))
   (eglot-shutdown (eglot-current-server))
   (princ (if good "as it should be\n" "NOT as it should be\n"))

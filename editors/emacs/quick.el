@@ -2,22 +2,20 @@
 
 ;; Starts a server in a file, and stops it at once: its request for the configuration and `shutdown' cross. Eglot must meet no error.
 ;;   LSP_SERVER="program argument .." emacs --batch -l editors/emacs/quick.el
-;; Without LSP_SERVER it is `crates/example_search/out/example_search'. Ends in status 1 at an error.
+;; Without LSP_SERVER it is `crates/example_toml/out/example_toml'. Ends in status 1 at an error.
 
 (require 'eglot)
 
 (defvar command
-  (let ((words (split-string (or (getenv "LSP_SERVER") "crates/example_search/out/example_search"))))
+  (let ((words (split-string (or (getenv "LSP_SERVER") "crates/example_toml/out/example_toml"))))
     (cons (expand-file-name (car words)) (cdr words))))
-(define-derived-mode sums-mode prog-mode "Sums")
-(add-to-list 'auto-mode-alist '("\\.sums\\'" . sums-mode))
-(add-to-list 'eglot-server-programs (cons 'sums-mode command))
-(setq-default eglot-workspace-configuration '((:sums . (:largest 20))))
+(add-to-list 'eglot-server-programs (cons '(conf-toml-mode :language-id "toml") command))
+(setq-default eglot-workspace-configuration '((:toml . (:version "1.1"))))
 (setq eglot-sync-connect t create-lockfiles nil)
 
-(let ((folder (make-temp-file "sums" t)) (good t))
-  (write-region "# one\na = 1\n" nil (expand-file-name "a.sums" folder) nil 'quiet)
-  (find-file (expand-file-name "a.sums" folder))
+(let ((folder (make-temp-file "toml" t)) (good t))
+  (write-region "# one\na = 1\n" nil (expand-file-name "a.toml" folder) nil 'quiet)
+  (find-file (expand-file-name "a.toml" folder))
   (dotimes (_ 5)
     (condition-case fault
         (progn (apply #'eglot (eglot--guess-contact))

@@ -1,18 +1,18 @@
 ;;; searching.el --- A server whose searches are jobs, in eglot  -*- lexical-binding: t; -*-
 
-;; Starts `example_search jobs' as eglot does, opens texts, and searches all of them: a hover is answered while a search runs, an
+;; Starts `example_toml' as eglot does, opens texts, and searches all of them: a hover is answered while a search runs, an
 ;; edit reaches the server, notices of progress come, a search is answered once, and one that is cancelled ends.
 ;;   LSP_SERVER="program argument .." emacs --batch -l editors/emacs/searching.el
-;; Without LSP_SERVER it is `crates/example_search/out/example_search jobs'. Ends in status 1 where it is otherwise.
+;; Without LSP_SERVER it is `crates/example_toml/out/example_toml'. Ends in status 1 where it is otherwise.
 
 (require 'eglot)
 
 (defvar command
-  (let ((words (split-string (or (getenv "LSP_SERVER") "crates/example_search/out/example_search jobs"))))
+  (let ((words (split-string (or (getenv "LSP_SERVER") "crates/example_toml/out/example_toml"))))
     (cons (expand-file-name (car words)) (cdr words))))
-(defvar patience 10)
+(defvar patience 60)
 (defvar documents 20)
-(defvar headings 2000)
+(defvar keys 1000)
 (defvar good t)
 
 (defun note (what holds)
@@ -84,41 +84,40 @@
     (eglot-hover-eldoc-function (lambda (info &rest _) (setcar shows (and info (string-trim info)))))
     shows))
 
-(define-derived-mode note-mode text-mode "Note")
-(add-to-list 'eglot-server-programs (cons 'note-mode command))
+(add-to-list 'eglot-server-programs (cons '(conf-toml-mode :language-id "toml") command))
 (setq eglot-sync-connect t)
 (setq eglot-events-buffer-size 0)
 
-(let* ((folder (make-temp-file "notes" t))
-       (file (expand-file-name "one.note" folder))
-       (text (apply #'concat (make-list headings "# heading one\n# another\n")))
+(let* ((folder (make-temp-file "toml" t))
+       (file (expand-file-name "one.toml" folder))
+       (text (mapconcat (lambda (number) (format "one_%d = %d\nother_%d = \"😀\"\n" number number number))
+                        (number-sequence 0 (1- keys)) ""))
        (expected nil) (uris nil))
-  (write-region "# größe of one\ntwo = 2\n# other\n#one\nthree = 3 # heading one\n" nil file nil 'quiet)
+  (write-region "\"größe of one\" = 1\ntwo = 2\nother = 0\n# one\nthree = 3 # one\n" nil file nil 'quiet)
   (switch-to-buffer (find-file-noselect file))
-  (note-mode)
   (apply #'eglot (eglot--guess-contact))
 
   (let* ((server (eglot-current-server)) (buffer (plist-get (eglot--TextDocumentIdentifier) :uri)))
     (push buffer uris)
-    (push (list buffer 0 "größe of one") expected)
+    (push (list buffer 0 "\"größe of one\"") expected)
     (dotimes (number documents)
-      (let ((uri (format "file:///%d.sums" number)))
+      (let ((uri (format "file:///%d.toml" number)))
         (push uri uris)
-        (dotimes (heading headings) (push (list uri (* 2 heading) "heading one") expected))
+        (dotimes (key keys) (push (list uri (* 2 key) (format "one_%d" key)) expected))
         (jsonrpc-notify server :textDocument/didOpen
-                        (list :textDocument (list :uri uri :languageId "sums" :version 1 :text text)))))
+                        (list :textDocument (list :uri uri :languageId "toml" :version 1 :text text)))))
     (setq expected (sort expected #'before))
 
     (let* ((search (ask server :workspace/symbol (list :query "one" :workDoneToken "first")))
            (first (hover "two")) second)
-      (wait-for "a hover is answered" (lambda () (equal first '("two = 2"))))
+      (wait-for "a hover is answered" (lambda () (equal first '("two: integer"))))
       (note "the search still runs" (= (times (car search)) 0))
-      (replace-text "two = 2" "two = 2 + 2")
+      (replace-text "two = 2" "two = 2.5")
       (replace-text "größe of one" "𝒙")
       (setq second (hover "two"))
-      (wait-for "a hover after an edit tells the new value" (lambda () (equal second '("two = 4"))))
+      (wait-for "a hover after an edit tells the new type" (lambda () (equal second '("two: float"))))
       (note "the search still runs" (= (times (car search)) 0))
-      (wait-for "it finds the headings of the texts as they were when it was asked for"
+      (wait-for "it finds the keys of the texts as they were when it was asked for"
                 (lambda () (and (cadr search) (equal (found (cadr search)) expected))))
       (let* ((told (reverse notices)) (between (butlast (cdr told))))
         (note "notices of progress came from its begin to its end"
@@ -137,8 +136,8 @@
         (wait-for "it was cancelled" (lambda () (equal (cadr stopped) '(error -32800))))
 
         (let ((third (ask server :workspace/symbol (list :query "𝒙"))))
-          (wait-for "a search after that finds the heading as it was edited"
-                    (lambda () (equal (found (cadr third)) (list (list buffer 0 "𝒙")))))
+          (wait-for "a search after that finds the key as it was edited"
+                    (lambda () (equal (found (cadr third)) (list (list buffer 0 "\"𝒙\"")))))
           (note "each search has one reply"
                 (equal (mapcar (lambda (asked) (times (car asked))) (list search stopped third)) '(1 1 1))))))
 

@@ -1,15 +1,15 @@
 ;;; typing.el --- Edits in eglot, compared with the server's text  -*- lexical-binding: t; -*-
 
 ;; Types, pastes, undoes and replaces in Emacs, in a text with emoji and combining marks, and looks after each edit whether
-;; `example_search' holds the text of the buffer.
+;; `example_toml' holds the text of the buffer.
 ;;   LSP_SERVER="program argument .." emacs --batch -l editors/emacs/typing.el
-;; Without LSP_SERVER it is `crates/example_search/out/example_search'; SEED and EDITS are 1 and 300. Ends in status 1 where
+;; Without LSP_SERVER it is `crates/example_toml/out/example_toml'; SEED and EDITS are 1 and 300. Ends in status 1 where
 ;; a text differs.
 
 (require 'eglot)
 
 (defvar command
-  (let ((words (split-string (or (getenv "LSP_SERVER") "crates/example_search/out/example_search"))))
+  (let ((words (split-string (or (getenv "LSP_SERVER") "crates/example_toml/out/example_toml"))))
     (cons (expand-file-name (car words)) (cdr words))))
 (defvar edits (string-to-number (or (getenv "EDITS") "300")))
 (defvar pieces '("a" "word " "= 1" "ß" "Ä" "é" "é" "漢字" "𝒙" "😀" "👨‍👩‍👧" "🇪🇺" "\n" "\n" "\u2028" "\t"))
@@ -48,28 +48,27 @@
     (ignore-errors (funcall (cdr way)))
     (car way)))
 
-(define-derived-mode sums-mode prog-mode "Sums")
-(add-to-list 'eglot-server-programs (cons 'sums-mode command))
+(add-to-list 'eglot-server-programs (cons '(conf-toml-mode :language-id "toml") command))
 (setq eglot-sync-connect t)
 (setq eglot-send-changes-idle-time 0)
 (random (or (getenv "SEED") "1"))
 
-(let* ((folder (make-temp-file "sums" t))
-       (file (expand-file-name "prices.sums" folder))
+(let* ((folder (make-temp-file "toml" t))
+       (file (expand-file-name "prices.toml" folder))
        (coding-system-for-read 'utf-8-dos)
        (coding-system-for-write 'utf-8-dos)
        (right 0) (good t))
-  (write-region "apple = 3\ngröße = apple + 30\n𝒙 = größe\n# 👨‍👩‍👧 é\n" nil file nil 'quiet)
+  (write-region "apple = 3\n\"größe\" = { apple = 30 }\n\"𝒙\" = \"größe\"\n# 👨‍👩‍👧 é\n" nil file nil 'quiet)
   (switch-to-buffer (find-file-noselect file))
   (buffer-enable-undo)
-  (sums-mode)
+  (conf-toml-mode)
   (apply #'eglot (eglot--guess-contact))
   (let ((server (eglot-current-server)) (turn 0))
     (while (and good (< turn edits))
       (setq turn (1+ turn))
       (let ((way (edit-once)))
         (eglot--signal-textDocument/didChange)
-        (let ((held (jsonrpc-request server :sums/text (list :textDocument (eglot--TextDocumentIdentifier)))))
+        (let ((held (jsonrpc-request server :toml/text (list :textDocument (eglot--TextDocumentIdentifier)))))
           (if (string= held (buffer-substring-no-properties (point-min) (point-max)))
               (setq right (1+ right))
             (setq good nil)

@@ -10,7 +10,7 @@ sys.path.append(str(Path(__file__).resolve().parent.parent))
 from gui import COMMAND, Gui
 
 with Gui("geany") as gui:
-    gui.put(".config/geany/filetype_extensions.conf", "[Extensions]\nConf=*.sums;*.conf;\n")
+    gui.put(".config/geany/filetype_extensions.conf", "[Extensions]\nConf=*.toml;*.conf;\n")
     (plugin,) = Path("/usr/lib").glob("*/geany/lsp.so")
     gui.put(".config/geany/geany.conf", f"""[geany]
 pref_main_load_session=false
@@ -28,13 +28,14 @@ use_outside_project_dir=true
 send_did_change_configuration=true
 [Conf]
 cmd={" ".join(COMMAND)}
-initialization_options={{"sums":{{"largest":20}}}}
-lang_id_mappings=sums;*.sums
+initialization_options={{"toml":{{"version":"1.1"}}}}
+lang_id_mappings=toml;*.toml
 """)
     geany = gui.start("geany", "-i", str(gui.files[1]), str(gui.files[0]))
-    gui.window("a.sums")
+    gui.window("a.toml")
     time.sleep(4)
     gui.key("F2")
+    gui.marks(1)
     gui.edits("ctrl+y", ["alt+shift+Down", "a", "b", "BackSpace", "ctrl+z", "Escape", "alt+Next", "ctrl+d", "ctrl+k"])
     gui.key("ctrl+Prior")
     gui.edits_returns()

@@ -13,21 +13,25 @@ sys.dont_write_bytecode = True
 
 from screen import Helix
 
-helix = Helix(["a = 1"])
+# A key of many parts. A hover at its last part shows all of them, and its box has at most 120 columns.
+BURST, BURSTS = ".part1.two", 10
+
+helix = Helix(["a = 1"], width=160)
 try:
-    helix.note("it starts", helix.shows("prices.sums") and helix.comes(lambda: helix.texts()))
+    helix.note("it starts", helix.shows("prices.toml") and helix.comes(lambda: helix.texts()))
     helix.keys("o")
-    helix.type("total = a")
-    for _ in range(20):
-        helix.tmux("send-keys", "-l", " + 3 - 2 + 4")
+    helix.type("all")
+    for _ in range(BURSTS):
+        helix.tmux("send-keys", "-l", BURST)
         time.sleep(0.3)
+    helix.type(" = 1")
     helix.keys("Escape")
     time.sleep(1)
     helix.command("w!")
     helix.comes(lambda: any(message.get("method") == "textDocument/didSave" for _, message in helix.messages()))
     # A hover behind the save: the server answers it by the text that it holds.
-    helix.keys("g", "h", "Space", "k")
-    shown = helix.shows("total = 101")
+    helix.keys("g", "l", "Space", "k")
+    shown = helix.shows(f"all{BURST * BURSTS}: integer")
     messages = helix.messages()
     versions = [it["params"]["textDocument"]["version"] for _, it in messages if it.get("method") == "textDocument/didChange"]
     behind = sum(1 for one, two in zip(versions, versions[1:]) if two < one)

@@ -1,6 +1,6 @@
 """A user of Helix in a terminal of `tmux`: sends keys, waits for what has to be on the screen, and looks at what `tap.py` wrote of the session.
 
-LSP_SERVER="program argument .." names the server, which is `crates/example_search/out/example_search` without it. Its text can't be asked for in
+LSP_SERVER="program argument .." names the server, which is `crates/example_toml/out/example_toml` without it. Its text can't be asked for in
 Helix. So the text that the server has to have is made of the messages, and compared with the file that Helix wrote.
 """
 import json
@@ -22,22 +22,22 @@ SETTINGS = (EDITORS / "helix" / "languages.toml").read_text()
 
 
 class Helix:
-    def __init__(self, lines):
-        """Starts it with a file of these lines."""
+    def __init__(self, lines, width=120):
+        """Starts it with a file of these lines, in a terminal of this width."""
         self.folder = Path(tempfile.mkdtemp(prefix="helix"))
-        words = os.environ.get("LSP_SERVER", "crates/example_search/out/example_search").split()
+        words = os.environ.get("LSP_SERVER", "crates/example_toml/out/example_toml").split()
         if not words[0].endswith("tap.py"):
             words = ["editors/tap.py", str(self.folder / "tap"), *words]
         self.tap = words[1]
         command, *args = [str(Path(word).resolve()) if "/" in word else word for word in words]
         (self.folder / "helix").mkdir()
-        settings = SETTINGS.replace('command = "/path/to/example_search"', f'command = "{command}"\nargs = {json.dumps(args)}')
+        settings = SETTINGS.replace('command = "/path/to/example_toml"', f'command = "{command}"\nargs = {json.dumps(args)}')
         (self.folder / "helix" / "languages.toml").write_text(settings)
-        self.path = self.folder / "prices.sums"
+        self.path = self.folder / "prices.toml"
         self.path.write_text("\n".join(lines) + "\n", newline="")
         home = f"HOME={self.folder} XDG_CONFIG_HOME={self.folder} XDG_CACHE_HOME={self.folder}"
         line = f"env {home} LANG=C.UTF-8 TERM=xterm-256color hx {self.path}; sleep 3"
-        self.tmux("-u", "-f", "/dev/null", "new-session", "-d", "-x", "120", "-y", "30", line)
+        self.tmux("-u", "-f", "/dev/null", "new-session", "-d", "-x", str(width), "-y", "30", line)
         self.good = True
 
     def tmux(self, *words):
@@ -93,6 +93,11 @@ class Helix:
                 uri = message["params"]["textDocument"]["uri"]
                 texts.setdefault(uri, Text(encoding)).hear(message["method"], message["params"])
         return [text.text for text in texts.values() if text.text is not None]
+
+    def marks(self):
+        """The marks that the server published last."""
+        told = [message["params"] for _, message in self.messages() if message.get("method") == "textDocument/publishDiagnostics"]
+        return told[-1]["diagnostics"] if told else []
 
     def is_written(self, number=1):
         """Whether a write puts the text into the file that the messages tell."""

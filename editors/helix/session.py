@@ -1,6 +1,6 @@
 #!/usr/bin/env python3
-"""Helix starts `example_search` in a text, and shows its marks, hovers and headings; edits it with one caret and with many, reads it again, and
-starts the server again. Behind each of these the text of the server has to be the file's.
+"""Helix starts `example_toml` in a text, and shows its marks, hovers, keys, outline and completions; goes to a definition and formats. Then it edits
+the text with one caret and with many, reads it again, and starts the server again. Behind each of these the text of the server has to be the file's.
 
     LSP_SERVER="program argument .." editors/helix/session.py        at the top of the repository; see screen.py
 
@@ -12,20 +12,32 @@ sys.dont_write_bytecode = True
 
 from screen import Helix
 
-helix = Helix(["# prices of apples", "apple = 3", "größe = apple + 30", "𝒙 = größe + pear", "# 👨‍👩‍👧 e\u0301"])
+helix = Helix(["[prices]", "apple   = 3  ", "\"größe\" = { apple = 30, }", "\"𝒙\" = pear", "# 👨‍👩‍👧 e\u0301", "[prices.more]", "plum = true"])
 try:
-    helix.note("it starts", helix.shows("prices.sums"))
-    helix.note("marks follow the text and the configuration", helix.shows("● 2"))
-    helix.keys("g", "g", "j", "j")
-    helix.note("a mark's text is shown on its line", helix.shows("is too large"))
-    helix.keys("j", "g", "l")
-    helix.note("another line shows its own", helix.shows("has no value"))
-    helix.keys("k", "g", "h", "Space", "k")
-    helix.note("a hover tells the value", helix.shows("größe = 33"))
+    helix.note("it starts", helix.shows("prices.toml"))
+    helix.note("one mark, since the settings allow the other", helix.shows("● 1") and helix.comes(lambda: len(helix.marks()) == 1))
+    helix.keys("g", "g", "j", "j", "j", "g", "l")
+    helix.note("the mark's text is shown on its line", helix.shows(helix.marks()[0]["message"][:12]))
+    helix.keys("k", "g", "l", "h", "h", "h", "Space", "k")
+    helix.note("a hover tells the full key and its type", helix.shows('prices."größe".apple: integer'))
     helix.keys("Escape", "Space", "S")
-    helix.type("prices")
-    helix.note("the headings are found", helix.shows("prices of apples"))
-    helix.keys("Escape", "Escape")
+    helix.type("größe")
+    helix.note("a key is found in all texts", helix.shows('prices."größe".apple'))
+    helix.keys("Escape", "Escape", "Space", "s")
+    helix.type("plum")
+    helix.note("the outline has a key", helix.shows("1/7") and helix.shows("> "))
+    helix.keys("Enter", "k", "g", "h", "l", "g", "d")
+    helix.note("the definition of a table is its header", helix.shows("1 sel  1:1"))
+    helix.keys("j", "j", "j", "x", "d")
+    helix.note("a text that is right has no mark", helix.comes(lambda: not helix.marks()))
+    helix.command("format")
+    helix.note("the text is formatted", helix.is_written() and helix.path.read_text().split("\n")[1] == "apple = 3")
+    helix.keys("g", "e", "o")
+    helix.type("ripe = fa")
+    helix.keys("C-x")
+    helix.note("a value is completed", helix.shows("false"))
+    helix.keys("C-n", "Enter", "Escape")
+    helix.note("its text after a completion", helix.is_written() and "ripe = false\n" in helix.path.read_text())
 
     helix.keys("g", "g", "j", "A")
     helix.type(" + 𝒙😀 größe")

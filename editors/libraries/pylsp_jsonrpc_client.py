@@ -10,7 +10,7 @@ from pylsp_jsonrpc.endpoint import Endpoint
 from pylsp_jsonrpc.exceptions import JsonRpcException
 from pylsp_jsonrpc.streams import JsonRpcStreamReader, JsonRpcStreamWriter
 
-URI, TEXT = "file:///project/a.sums", "# prices\napple = 3\ntotal = apple + 4 - nope\n"
+URI, TEXT = "file:///project/a.toml", "[prices]\napple = 3\ntotal = { apple = 3, }\npear = nope\n"
 DOCUMENT = {"textDocument": {"uri": URI}}
 marks, asked = [], []
 
@@ -22,7 +22,7 @@ def holds(what, is_right):
 
 def configure(params):
     asked.append(params)
-    return [{"largest": 20}]
+    return [{"version": "1.1"}]
 
 
 server = subprocess.Popen(os.environ["LSP_SERVER"].split(), stdin=subprocess.PIPE, stdout=subprocess.PIPE)
@@ -38,17 +38,17 @@ def ask(method, params):
 
 ask("initialize", {"processId": None, "rootUri": None, "capabilities": {"workspace": {"configuration": True}}})
 endpoint.notify("initialized", {})
-endpoint.notify("textDocument/didOpen", {"textDocument": {"uri": URI, "languageId": "sums", "version": 1, "text": TEXT}})
+endpoint.notify("textDocument/didOpen", {"textDocument": {"uri": URI, "languageId": "toml", "version": 1, "text": TEXT}})
 for _ in range(400):
-    if marks and asked:
+    if asked and marks and len(marks[-1]["diagnostics"]) == 1:
         break
     time.sleep(0.05)
-holds("marks and a request for the settings", marks and asked)
-holds("a hover", ask("textDocument/hover", {**DOCUMENT, "position": {"line": 1, "character": 1}})["contents"]["value"] == "apple = 3")
+holds("one mark, since the settings allow the other", asked and len(marks[-1]["diagnostics"]) == 1)
+holds("a hover", ask("textDocument/hover", {**DOCUMENT, "position": {"line": 1, "character": 1}})["contents"]["value"] == "prices.apple: integer")
 change = {"range": {"start": {"line": 1, "character": 0}, "end": {"line": 1, "character": 5}}, "text": "😀é"}
 endpoint.notify("textDocument/didChange", {"textDocument": {"uri": URI, "version": 2}, "contentChanges": [change]})
-holds("the text", ask("sums/text", DOCUMENT) == TEXT.replace("apple = 3", "😀é = 3", 1))
-holds("a search", len(ask("workspace/symbol", {"query": "pri"})) == 1)
+holds("the text", ask("toml/text", DOCUMENT) == TEXT.replace("apple = 3", "😀é = 3", 1))
+holds("a search", len(ask("workspace/symbol", {"query": "total"})) == 2)
 try:
     holds("an unknown method", ask("no/such", {}) and False)
 except JsonRpcException as error:

@@ -1,9 +1,9 @@
 -- Reloads, renames, wipes, visits again, restarts the server and undoes 200 steps in Neovim, and looks after each of these, and after
--- edits behind it, whether `example_search` holds the text of the buffer.
+-- edits behind it, whether `example_toml` holds the text of the buffer.
 --   LSP_SERVER="program argument .." nvim --headless -u NONE -i NONE -S editors/neovim/keeping.lua
--- Without LSP_SERVER it is `crates/example_search/out/example_search`. Ends in status 1 where a text differs.
+-- Without LSP_SERVER it is `crates/example_toml/out/example_toml`. Ends in status 1 where a text differs.
 
-local command = vim.split(vim.env.LSP_SERVER or 'crates/example_search/out/example_search', ' ')
+local command = vim.split(vim.env.LSP_SERVER or 'crates/example_toml/out/example_toml', ' ')
 local patience = 10000
 local steps = 200
 local client, ended
@@ -27,7 +27,7 @@ end
 local function begin()
   client, ended = nil, nil
   vim.lsp.start_client({
-    name = 'sums',
+    name = 'toml',
     cmd = command,
     flags = { allow_incremental_sync = true, debounce_text_changes = 0 },
     on_init = function(begun) client = begun end,
@@ -43,7 +43,7 @@ local function attach()
 end
 
 -- As a plugin that starts servers does, for each buffer that is read.
-vim.api.nvim_create_autocmd('BufReadPost', { pattern = '*.sums', callback = attach })
+vim.api.nvim_create_autocmd('BufReadPost', { pattern = '*.toml', callback = attach })
 
 local function ends_well()
   client.stop()
@@ -52,7 +52,7 @@ end
 
 local function server_text(uri)
   local answer
-  client.request('sums/text', { textDocument = { uri = uri } }, function(fault, result)
+  client.request('toml/text', { textDocument = { uri = uri } }, function(fault, result)
     answer = { fault = fault, result = result }
   end)
   if not vim.wait(patience, function() return answer ~= nil end, 1) or answer.fault then
@@ -101,7 +101,7 @@ end
 -- Whether the server holds the text of the buffer after each of many edits, and after each step back.
 local function undoes()
   local first = buffer_text()
-  local pieces = { 'a', '𝒙 = 1\n', 'é', '\n', '😀ß' }
+  local pieces = { 'a', '"𝒙" = 1\n', 'é', '\n', '😀ß' }
   for step = 1, steps do
     -- A new block of changes, which one `:undo` takes back.
     vim.cmd('let &undolevels = &undolevels')
@@ -118,8 +118,8 @@ end
 
 local folder = vim.fn.tempname()
 vim.fn.mkdir(folder)
-local file, other, renamed = folder .. '/prices.sums', folder .. '/other.sums', folder .. '/renamed.sums'
-local text = { 'apple = 3', 'größe = apple + 30', '𝒙 = größe', '# 👨‍👩‍👧 e\u{301}' }
+local file, other, renamed = folder .. '/prices.toml', folder .. '/other.toml', folder .. '/renamed.toml'
+local text = { 'apple = 3', '"größe" = { apple = 30 }', '"𝒙" = "größe"', '# 👨‍👩‍👧 e\u{301}' }
 write_file(file, text)
 write_file(other, { '# 😀 another text', 'four = 4' })
 vim.o.hidden = true
@@ -132,16 +132,16 @@ note('a file was visited', is_kept_in_edits())
 vim.cmd('edit ' .. other)
 note('another was visited', is_kept_in_edits())
 
-write_file(other, { '# other lines stand in the file', 'ß = 1' })
+write_file(other, { '# other lines stand in the file', '"ß" = 1' })
 vim.cmd('edit!')
 note('the file was read again', is_kept_in_edits())
 put(0, 0, { 'not told yet ' })
 vim.cmd('edit!')
 note('it was read again, behind an edit', is_kept_in_edits())
 vim.cmd('silent write')
-write_file(other, { 'a = 1 + 1', '# 😀😀😀', 'b = 2', 'c = 3' })
+write_file(other, { 'a = [1, 1]', '# 😀😀😀', 'b = 2', 'c = 3' })
 vim.cmd('silent checktime')
-note('the file changed, and Neovim saw that', buffer_text() == 'a = 1 + 1\n# 😀😀😀\nb = 2\nc = 3\n')
+note('the file changed, and Neovim saw that', buffer_text() == 'a = [1, 1]\n# 😀😀😀\nb = 2\nc = 3\n')
 note('it was read again, since the file had changed', is_kept_in_edits())
 vim.cmd('buffer ' .. vim.fn.bufnr(file))
 note('the other text is what it was', is_kept_in_edits())
@@ -163,7 +163,7 @@ vim.cmd('edit!')
 note('it was read again', is_kept_in_edits())
 
 -- What a server's edit with a renamed file has Neovim do (`WorkspaceEdit`): the buffer is deleted, and another one has the text.
-local moved = folder .. '/moved.sums'
+local moved = folder .. '/moved.toml'
 vim.cmd('silent write')
 local gone = uri()
 vim.lsp.util.rename(renamed, moved)

@@ -1,17 +1,17 @@
--- Edits lines of half a megabyte and more. After each edit the text of `example_search` has to be the buffer's.
+-- Edits lines of half a megabyte and more. After each edit the text of `example_toml` has to be the buffer's.
 --   LSP_SERVER="program argument .." nvim --headless -u NONE -i NONE -S editors/neovim/long.lua
 -- ENCODING is as in typing.lua. Ends in status 1 where a text differs.
-local command = vim.split(vim.env.LSP_SERVER or 'crates/example_search/out/example_search', ' ')
+local command = vim.split(vim.env.LSP_SERVER or 'crates/example_toml/out/example_toml', ' ')
 local patience = 20000
 local client, ended
 vim.o.swapfile = false
-vim.api.nvim_buf_set_name(0, vim.fn.tempname() .. '.sums')
+vim.api.nvim_buf_set_name(0, vim.fn.tempname() .. '.toml')
 local lines = { '# ' .. string.rep('größe 😀 e\u{301} ', 60000), 'a = 1', '# ' .. string.rep('𝒙', 250000), '' }
 vim.api.nvim_buf_set_lines(0, 0, -1, false, lines)
 local capabilities = vim.lsp.protocol.make_client_capabilities()
 if vim.env.ENCODING then capabilities.general.positionEncodings = { vim.env.ENCODING } end
 vim.lsp.start_client({
-  name = 'sums',
+  name = 'toml',
   cmd = command,
   capabilities = capabilities,
   flags = { allow_incremental_sync = true, debounce_text_changes = 0 },
@@ -25,7 +25,7 @@ local right, looks = 0, 0
 local function look()
   local wanted = table.concat(vim.api.nvim_buf_get_lines(0, 0, -1, true), '\n') .. '\n'
   local reply
-  client.request('sums/text', { textDocument = { uri = vim.uri_from_bufnr(0) } }, function(_, result) reply = result end)
+  client.request('toml/text', { textDocument = { uri = vim.uri_from_bufnr(0) } }, function(_, result) reply = result end)
   vim.wait(patience, function() return reply ~= nil end, 1)
   looks = looks + 1
   right = right + (reply == wanted and 1 or 0)

@@ -5,7 +5,7 @@
 -- change that is not told yet) or `asked` (while requests wait); without it Neovim starts itself for each of them.
 local moments = { 'begin', 'initialized', 'settings', 'open', 'asked' }
 local moment = vim.env.MOMENT
-local words = vim.split(vim.env.LSP_SERVER or 'crates/example_search/out/example_search', ' ')
+local words = vim.split(vim.env.LSP_SERVER or 'crates/example_toml/out/example_toml', ' ')
 vim.o.swapfile = false
 
 -- What came of leaving at a moment, and whether that is right.
@@ -40,8 +40,8 @@ local function leave()
   vim.cmd('qall!')
 end
 
-vim.api.nvim_buf_set_name(0, vim.fn.tempname() .. '.sums')
-vim.api.nvim_buf_set_lines(0, 0, -1, false, { '# one', 'größe = 3', 'b = größe + c' })
+vim.api.nvim_buf_set_name(0, vim.fn.tempname() .. '.toml')
+vim.api.nvim_buf_set_lines(0, 0, -1, false, { '# one', '"größe" = 3', 'b = pear' })
 local handlers = {}
 if moment == 'settings' then
   handlers['workspace/configuration'] = function(fault, params, context, config)
@@ -49,11 +49,14 @@ if moment == 'settings' then
     return vim.lsp.handlers['workspace/configuration'](fault, params, context, config)
   end
 end
+local lines = {}
+for number = 1, 1000 do lines[number] = 'key_' .. number .. ' = 1\n' end
+local long = table.concat(lines)
 local client
 vim.lsp.start_client({
-  name = 'sums',
+  name = 'toml',
   cmd = words,
-  settings = { sums = { largest = 20 } },
+  settings = { toml = { version = '1.1' } },
   handlers = handlers,
   flags = { exit_timeout = 1000 },
   exit_timeout = 1000, -- so from 0.12 on
@@ -68,7 +71,9 @@ if leaves then return end
 if moment == 'open' then
   vim.api.nvim_buf_set_lines(0, 0, 0, false, { '# 😀' })
 elseif moment == 'asked' then
-  client.request('sums/solved', { textDocument = vim.lsp.util.make_text_document_params() }, function() end)
-  client.request('workspace/symbol', { query = 'one' }, function() end)
+  client.notify('textDocument/didOpen', {
+    textDocument = { uri = 'file:///long.toml', languageId = 'toml', version = 1, text = long },
+  })
+  for _ = 1, 2 do client.request('workspace/symbol', { query = 'key_' }, function() end) end
 end
 leave()

@@ -1,13 +1,13 @@
 -- Types, pastes, undoes and replaces in Neovim, in a text with emoji and combining marks, and looks after each edit whether
--- `example_search` holds the text of the buffer. The lines end with `\n`, then with `\r\n`, then with `\r`. Last they are mixed: there
+-- `example_toml` holds the text of the buffer. The lines end with `\n`, then with `\r\n`, then with `\r`. Last they are mixed: there
 -- Neovim takes the `\r` of a `\r\n` for a character of its line. A server counts `\r` in one way in all texts. So where it stands by itself the
 -- texts may part, but the server says then that a position is past the end, or at a save that the text is another one.
 --   LSP_SERVER="program argument .." nvim --headless -u NONE -i NONE -S editors/neovim/typing.lua
 -- ENCODING is `utf-8`, `utf-16` or `utf-32` (from Neovim 0.10 on): what the client offers to count in.
--- Without LSP_SERVER it is `crates/example_search/out/example_search`; SEED and EDITS are 1 and 300. Ends in status 1 where
+-- Without LSP_SERVER it is `crates/example_toml/out/example_toml`; SEED and EDITS are 1 and 300. Ends in status 1 where
 -- a text differs.
 
-local command = vim.split(vim.env.LSP_SERVER or 'crates/example_search/out/example_search', ' ')
+local command = vim.split(vim.env.LSP_SERVER or 'crates/example_toml/out/example_toml', ' ')
 local edits = tonumber(vim.env.EDITS or '300')
 local patience = 10000
 local client, ended
@@ -110,7 +110,7 @@ end
 
 local function text_of_server()
   local answer
-  client.request('sums/text', { textDocument = { uri = vim.uri_from_bufnr(0) } }, function(fault, result)
+  client.request('toml/text', { textDocument = { uri = vim.uri_from_bufnr(0) } }, function(fault, result)
     answer = { fault = fault, result = result }
   end)
   if not vim.wait(patience, function() return answer ~= nil end, 1) or answer.fault then
@@ -123,14 +123,14 @@ for _, format in ipairs({ 'unix', 'dos', 'mac', 'mixed' }) do
   local mixed, may_part, told = format == 'mixed', format == 'mixed' or format == 'mac', false
   vim.cmd('enew!')
   vim.bo.fileformat = mixed and 'unix' or format
-  vim.api.nvim_buf_set_name(0, vim.fn.tempname() .. '.sums')
+  vim.api.nvim_buf_set_name(0, vim.fn.tempname() .. '.toml')
   local ending = mixed and '\r' or ''
-  vim.api.nvim_buf_set_lines(0, 0, -1, false, { 'apple = 3' .. ending, 'größe = apple + 30', '𝒙 = größe' .. ending, '# 👨‍👩‍👧 e\u{301}', '' })
+  vim.api.nvim_buf_set_lines(0, 0, -1, false, { 'apple = 3' .. ending, '"größe" = { apple = 30 }', '"𝒙" = "größe"' .. ending, '# 👨‍👩‍👧 e\u{301}', '' })
   client, ended = nil, nil
   local capabilities = vim.lsp.protocol.make_client_capabilities()
   if vim.env.ENCODING then capabilities.general.positionEncodings = { vim.env.ENCODING } end
   vim.lsp.start_client({
-    name = 'sums',
+    name = 'toml',
     cmd = command,
     capabilities = capabilities,
     handlers = {

@@ -42,6 +42,7 @@ with Gui("spyder", "py") as gui:
     spyder = gui.start("spyder", "--new-instance", str(gui.files[0]))
     time.sleep(40)
     gui.click(400, 500)
+    gui.marks(2)
     gui.edits("ctrl+shift+z")
     gui.key("ctrl+w", "ctrl+q")
     time.sleep(10)

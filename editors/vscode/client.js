@@ -4,9 +4,9 @@ const fs = require('fs');
 const path = require('path');
 const rpc = require('vscode-languageserver-protocol/node');
 
-const PATIENCE = 10000;
+const PATIENCE = 60000;
 // The program, from LSP_SERVER="program argument ..".
-const command = (process.env.LSP_SERVER || 'crates/example_search/out/example_search').split(' ');
+const command = (process.env.LSP_SERVER || 'crates/example_toml/out/example_toml').split(' ');
 
 // What VS Code sends to begin with, as a recorded session has it.
 const recording = path.join(__dirname, '../../tests/recordings/vscode_gopls016.lsp');
@@ -48,7 +48,7 @@ function start(words = []) {
 }
 
 // Begins a session over these streams. `answer` gives the result of the server's requests for the configuration.
-async function begin(server, answer = items => items.map(() => ({ largest: 20 }))) {
+async function begin(server, answer = items => items.map(() => ({ version: '1.1' }))) {
   Object.assign(server, { marks: new Map(), told: [], errors: [] });
   const connection = server.connection = rpc.createProtocolConnection(...server.streams);
   connection.onError(fault => server.errors.push(fault));

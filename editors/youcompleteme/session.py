@@ -15,12 +15,11 @@ sys.dont_write_bytecode = True
 sys.path.append(str(Path(__file__).resolve().parent.parent))
 
 COMMAND, HOME = os.environ["LSP_SERVER"].split(), Path(os.environ["HOME"])
-(HOME / "a.sums").write_text("# prices\napple = 3\ntotal = apple + 4 - nope\n")
-(HOME / "dos.sums").write_bytes(b"x = 1\r\ny = nope\r\n")
+(HOME / "a.toml").write_text("[prices]\napple = 3\ntotal = { apple = 3, }\npear = nope\n")
+(HOME / "dos.toml").write_bytes(b"x = 1\r\ny = nope\r\n")
 (HOME / "vimrc").write_text(f"""set nocompatible hidden nobackup noswapfile encoding=utf-8 backspace=2 mouse=
 filetype on
-autocmd BufRead,BufNewFile *.sums setfiletype sums
-let g:ycm_language_server = [{{'name': 'sums', 'cmdline': {json.dumps(COMMAND)}, 'filetypes': ['sums'], 'project_root_files': []}}]
+let g:ycm_language_server = [{{'name': 'toml', 'cmdline': {json.dumps(COMMAND)}, 'filetypes': ['toml'], 'project_root_files': []}}]
 let g:ycm_confirm_extra_conf = 0
 let g:ycm_server_python_interpreter = '/usr/bin/python3'
 let g:ycm_always_populate_location_list = 1
@@ -31,7 +30,7 @@ process, terminal = pty.fork()
 if process == 0:
     os.chdir(HOME)
     os.environ["TERM"] = "xterm-256color"
-    os.execvp("vim.nox", ["vim.nox", "-u", str(HOME / "vimrc"), "a.sums"])
+    os.execvp("vim.nox", ["vim.nox", "-u", str(HOME / "vimrc"), "a.toml"])
 fcntl.ioctl(terminal, termios.TIOCSWINSZ, struct.pack("HHHH", 40, 120, 0, 0))
 
 
@@ -54,14 +53,14 @@ def keys(text, pause=1.0, each=0.02):
 
 
 time.sleep(8)
-keys("Gopear = apple + 1\remoji😀é = 5\rq = emoji😀é\x1b:w\r")
+keys("Goplum = 1\r\"emoji😀é\" = 5\rq = \"emoji😀é\"\x1b:w\r")
 keys("gg0i😀é\x1b:w\r")
 keys("uu:w\r")
-keys("Go" + "\r".join(f"n{number} = {number} + 1" for number in range(40)) + "\x1b:w\r", each=0.002)
+keys("Go" + "\r".join(f"n{number} = {number}" for number in range(40)) + "\x1b:w\r", each=0.002)
 keys("uuuuuuuu:w\r")
 keys("\x12\x12\x12:w\r")
-keys(":e dos.sums\r", 3)
-keys("ggOz = 2\x1bGoé = 3\rw = nope\x1b:w\r")
+keys(":e dos.toml\r", 3)
+keys("ggOz = 2\x1bGo\"é\" = 3\rw = nope\x1b:w\r")
 # (the marks come some time after the text)
 for _ in range(10):
     keys(":YcmForceCompileAndDiagnostics\r", 2)
