@@ -1,0 +1,6 @@
+pub mod Text
+pub mod Views
+pub mod Fitting
+pub mod Whole
+pub mod Looks
+pub mod Trees

@@ -1,0 +1,11 @@
+use Rattle.std.proofs.Common.{◌∙◌}
+use Rattle.lsp_json.specs.Text.{text_json}
+use Rattle.lsp_json.proofs.Text.{known}
+use Rattle.lsp_json.proofs.Views.{is_null-of_json}
+use Rattle.lsp_json.proofs.text_ref.TextRef.is_null.Goals as goal
+
+pub returns : goal.returns
+returns c =
+    let ts = c.args.self.now.element in
+    let k = known ts c.args.self.now.stands in
+    c.is_null.ensures (text_json ts) k.begins ∙ is_null-of_json _ _ k.means

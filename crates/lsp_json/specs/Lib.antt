@@ -1,0 +1,4 @@
+pub mod JsonRef
+pub mod JsonText
+pub mod Text
+pub mod Fits
