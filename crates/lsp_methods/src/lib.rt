@@ -15,7 +15,7 @@ mod sending;
 mod tracing;
 
 pub use configuration::Configuration;
-pub use params::from_value;
+pub use params::{from_json, from_value};
 pub use publishing::publish;
 pub use receiving::{answer, on_notification, on_request, read_params, try_answer};
 pub use registering::{can_watch_files, register, unregister};

@@ -1,6 +1,8 @@
 mod FileUriLemmas
 mod FolderLemmas
+pub mod ItemLemmas
 pub mod JsonLemmas
+mod OfferLemmas
 pub mod ReadLemmas
 mod RestLemmas
 mod SymbolLemmas

@@ -1,6 +1,6 @@
 -- How numbers of lines, lists and maps are read.
-use Rattle.std.proofs.Common.{◌≡◌, ℕ, zero, suc, ◌<◌, List, [], ◌∷◌, ◌++◌, length, get_or, map, arith, sym, ap, ◌∙◌}
-use Rattle.std.proofs.Common.{◌+◌, take, subst, refl, append_assoc, append-nil, inl, inr}
+use Rattle.std.proofs.Common.{◌≡◌, ℕ, List, [], ◌∷◌, ◌++◌, sym, ap, ◌∙◌}
+use Rattle.std.proofs.Common.{subst, refl, append_assoc, append-nil, inl, inr, true, false, true≢false, is_some}
 use Rattle.std.proofs.Common.{Result, Ok, Err, Option, Some, None, ℤ, option_and_then, String, Global, string_bytes}
 use Rattle.std.proofs.Common.{string_cmp, nat_cmp, Less, Greater}
 use Rattle.std.specs.BTreeMap.{insert_entry}
@@ -13,54 +13,36 @@ use Rattle.std.proofs.lemmas.Option.{none-some}
 use Rattle.std.proofs.Common.{of_z, to_z, w32}
 use Rattle.std.proofs.lemmas.Int.{to_z-of_z}
 use Rattle.std.proofs.lemmas.Cmp.{nat_list_cmp_total}
-use Rattle.std.proofs.lemmas.Grind.{take_at_read}
-use Rattle.std.proofs.lemmas.List.{map-append}
-use Rattle.serde_json.specs.Data.{Data, Num, unsigned, negative, float}
-use Rattle.serde_json.specs.Find.{as_i64, as_u64, get}
-use Rattle.serde_json.specs.View.{items_of, members_view, view}
+use Rattle.serde_json.specs.Data.{Data, Num, unsigned, negative, float, null, boolean, number, string, array, object}
+use Rattle.serde_json.specs.Find.{as_i64, as_null, as_u64, get}
+use Rattle.serde_json.specs.View.{members_view, view}
 use Rattle.serde_json.specs.declared.value.Value.{Value}
 use Rattle.lsp_types.specs.declared.json.reading.Misfit.{Misfit}
-use Rattle.lsp_types.specs.Reads.{Adds, Both, EachItem, EachMember, Fits, FittingItems, IsInt, NoneReads, Puts}
+use Rattle.lsp_types.specs.Reads.{Adds, Both, EachMember, Fits, IsInt, NoneReads, Puts, but_null}
 use Rattle.lsp_types.specs.Reads.{ReadSoFar, ReadsAs, ReadsMore, ReadsSome, Required, line_of}
 
--- one more of each
-pub item_more : {T : Type 0} (reads : Data → T → Type 0) (ds : List Data) (xs : List T) (d : Data) (x : T)
-    → EachItem reads (items_of ds) xs → reads d x → EachItem reads (items_of (ds ++ d ∷ [])) (xs ++ x ∷ [])
-item_more reads [] [] d x each one = (one, tt)
-item_more reads [] (y ∷ xs) d x each one = absurd each
-item_more reads (c ∷ ds) [] d x each one = absurd each
-item_more reads (c ∷ ds) (y ∷ xs) d x each one = (each.0, item_more reads ds xs d x each.1 one)
+-- what is read of the same JSON
+pub of_same : {T : Type 0} (reads : Data → T → Type 0) {json other : Data} (result : Result T Misfit) → json ≡ other
+    → ReadsAs (reads json) result → ReadsAs (reads other) result
+of_same reads result same read = subst (λ json. ReadsAs (reads json) result) same read
 
--- the value of an item
-pub item_at : {T : Type 0} (reads : Data → T → Type 0) (vs : List Value) (xs : List T) (i : ℕ) (v : Value)
-    → i < length vs → v ≡ get_or vs i v → EachItem reads (items_of (map view vs)) xs → (x : T) × reads (view v) x
-item_at reads [] xs i v within is each = absurd (omega (within, arith))
-item_at reads (w ∷ vs) [] i v within is each = absurd each
-item_at reads (w ∷ vs) (x ∷ xs) zero v within is each = (x, subst (λ u. reads (view u) x) (sym is) each.0)
-item_at reads (w ∷ vs) (x ∷ xs) (suc i) v within is each = item_at reads vs xs i v (omega (within, arith)) is each.1
+-- null counts as missing
+pub null_is_missing : (json : Data) → is_some (as_null json) ≡ true → but_null (Some json) ≡ None
+null_is_missing null is = refl
+null_is_missing (boolean b) is = absurd (true≢false (sym is))
+null_is_missing (number n) is = absurd (true≢false (sym is))
+null_is_missing (string s) is = absurd (true≢false (sym is))
+null_is_missing (array ds) is = absurd (true≢false (sym is))
+null_is_missing (object ms) is = absurd (true≢false (sym is))
 
--- one more that fits
-pub fits_more : {T : Type 0} (reads : Data → T → Type 0) (ds : List Data) (xs : List T) (d : Data) (x : T)
-    → FittingItems reads (items_of ds) xs → reads d x → FittingItems reads (items_of (ds ++ d ∷ [])) (xs ++ x ∷ [])
-fits_more reads [] xs d x fits one = inl (x, [], ap (λ ys. ys ++ x ∷ []) fits, one, refl)
-fits_more reads (c ∷ ds) xs d x (inl some) one =
-    inl (some.0, some.1 ++ x ∷ [], ap (λ ys. ys ++ x ∷ []) some.2, some.3, fits_more reads ds some.1 d x some.4 one)
-fits_more reads (c ∷ ds) xs d x (inr none) one = inr (none.0, fits_more reads ds xs d x none.1 one)
-
--- one more that does not
-pub fits_not : {T : Type 0} (reads : Data → T → Type 0) (ds : List Data) (xs : List T) (d : Data)
-    → FittingItems reads (items_of ds) xs → NoneReads reads d → FittingItems reads (items_of (ds ++ d ∷ [])) xs
-fits_not reads [] xs d fits unfit = inr (unfit, fits)
-fits_not reads (c ∷ ds) xs d (inl some) unfit =
-    inl (some.0, some.1, some.2, some.3, fits_not reads ds some.1 d some.4 unfit)
-fits_not reads (c ∷ ds) xs d (inr none) unfit = inr (none.0, fits_not reads ds xs d none.1 unfit)
-
--- the items up to the next
-pub taken : (vs : List Value) (i : ℕ) (v : Value) → i < length vs → v ≡ get_or vs i v
-    → map view (take (i + 1) vs) ≡ map view (take i vs) ++ view v ∷ []
-taken vs i v within is =
-    ap (map view) ((take_at_read vs i v within).1 ∙ ap (λ u. take i vs ++ u ∷ []) (sym is))
-    ∙ map-append view (take i vs) (v ∷ [])
+-- another value does not
+pub other_is_present : (json : Data) → is_some (as_null json) ≡ false → but_null (Some json) ≡ Some json
+other_is_present null is = absurd (true≢false is)
+other_is_present (boolean b) is = refl
+other_is_present (number n) is = refl
+other_is_present (string s) is = refl
+other_is_present (array ds) is = refl
+other_is_present (object ms) is = refl
 
 abbrev pub Entry : Type 0
 Entry = String Global × Value

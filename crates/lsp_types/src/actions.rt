@@ -12,6 +12,7 @@ use crate::edits::WorkspaceEdit;
 use crate::json::{FromJson, Members, Misfit, Object, ToJson, fitting, number_within};
 use crate::progress::ProgressToken;
 use crate::workspace::Command;
+use lsp_json::JsonRef;
 use lsp_text::Range;
 use serde_json::Value;
 use std::alloc::{AllocError, Global};
@@ -60,7 +61,7 @@ impl FromJson for CodeActionParams {
         and IfFits ⟦<ProgressToken as FromJson>⟧.reads (codes "workDoneToken") json it.work_done_token
         and IfFits ⟦<ProgressToken as FromJson>⟧.reads (codes "partialResultToken") json it.partial_result_token };
 
-    fn from_json(alloc: Global, value: &Value) -> Result<CodeActionParams, Misfit> {
+    fn from_json(alloc: Global, value: &JsonRef<'_>) -> Result<CodeActionParams, Misfit> {
         match Members::new(alloc, value)
             .required("textDocument")
             .required("range")
@@ -121,7 +122,7 @@ impl FromJson for CodeActionContext {
         and Optional ⟦<Vec<String> as FromJson>⟧.reads (codes "only") json it.only
         and IfFits ⟦<CodeActionTriggerKind as FromJson>⟧.reads (codes "triggerKind") json it.trigger_kind };
 
-    fn from_json(alloc: Global, value: &Value) -> Result<CodeActionContext, Misfit> {
+    fn from_json(alloc: Global, value: &JsonRef<'_>) -> Result<CodeActionContext, Misfit> {
         match Members::new(alloc, value)
             .those_that_fit("diagnostics")
             .optional("only")
@@ -163,7 +164,7 @@ impl ToJson for CodeActionTriggerKind {
 impl FromJson for CodeActionTriggerKind {
     ghost reads = { λ json it. IsWithin 1 2 json it.0 };
 
-    fn from_json(alloc: Global, value: &Value) -> Result<CodeActionTriggerKind, Misfit> {
+    fn from_json(alloc: Global, value: &JsonRef<'_>) -> Result<CodeActionTriggerKind, Misfit> {
         match number_within(alloc, value, 1, 2) {
             Ok(number) => Ok(CodeActionTriggerKind(number)),
             Err(misfit) => Err(misfit),
@@ -191,7 +192,7 @@ impl FromJson for CodeActionDisabled {
     ghost reads = { λ json it. IsObject json
         and Required ⟦<String as FromJson>⟧.reads (codes "reason") json it.reason };
 
-    fn from_json(alloc: Global, value: &Value) -> Result<CodeActionDisabled, Misfit> {
+    fn from_json(alloc: Global, value: &JsonRef<'_>) -> Result<CodeActionDisabled, Misfit> {
         match Members::new(alloc, value).required("reason").end() {
             Ok(read) => {
                 let ((), reason) = read;
@@ -296,7 +297,7 @@ impl FromJson for CodeAction {
         and Optional ⟦<Value as FromJson>⟧.reads (codes "data") json it.«data»
         and Beside (codes "title" ∷ codes "kind" ∷ codes "diagnostics" ∷ codes "isPreferred" ∷ codes "disabled" ∷ codes "edit" ∷ codes "command" ∷ codes "data" ∷ []) json it.more };
 
-    fn from_json(alloc: Global, value: &Value) -> Result<CodeAction, Misfit> {
+    fn from_json(alloc: Global, value: &JsonRef<'_>) -> Result<CodeAction, Misfit> {
         match Members::new(alloc, value)
             .required("title")
             .optional("kind")
@@ -379,7 +380,7 @@ impl FromJson for CodeActionOrCommand {
       | Action it ↦ NoneReads ⟦<Command as FromJson>⟧.reads json × ⟦<CodeAction as FromJson>⟧.reads json it
     ] };
 
-    fn from_json(alloc: Global, value: &Value) -> Result<CodeActionOrCommand, Misfit> {
+    fn from_json(alloc: Global, value: &JsonRef<'_>) -> Result<CodeActionOrCommand, Misfit> {
         if let Some(it) = fitting(alloc, value)? {
             return Ok(CodeActionOrCommand::Command(it));
         }

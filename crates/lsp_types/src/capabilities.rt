@@ -8,6 +8,7 @@ ghost use Rattle.lsp_types.specs.Offers.{NumberOr, Offered, Options};
 ghost use Rattle.lsp_types.specs.Reads.{Beside, IsObject, IsWithin, NoneReads, Optional, Required, ◌and◌};
 
 use crate::json::{FromJson, Members, Misfit, Object, ToJson, fitting, number_within};
+use lsp_json::JsonRef;
 use serde_json::Value;
 use std::alloc::{AllocError, Global};
 
@@ -309,7 +310,7 @@ impl FromJson for ServerCapabilities {
         and Optional ⟦<Value as FromJson>⟧.reads (codes "experimental") json it.experimental
         and Beside (codes "positionEncoding" ∷ codes "textDocumentSync" ∷ codes "notebookDocumentSync" ∷ codes "completionProvider" ∷ codes "hoverProvider" ∷ codes "signatureHelpProvider" ∷ codes "declarationProvider" ∷ codes "definitionProvider" ∷ codes "typeDefinitionProvider" ∷ codes "implementationProvider" ∷ codes "referencesProvider" ∷ codes "documentHighlightProvider" ∷ codes "documentSymbolProvider" ∷ codes "codeActionProvider" ∷ codes "codeLensProvider" ∷ codes "documentLinkProvider" ∷ codes "colorProvider" ∷ codes "documentFormattingProvider" ∷ codes "documentRangeFormattingProvider" ∷ codes "documentOnTypeFormattingProvider" ∷ codes "renameProvider" ∷ codes "foldingRangeProvider" ∷ codes "selectionRangeProvider" ∷ codes "executeCommandProvider" ∷ codes "callHierarchyProvider" ∷ codes "linkedEditingRangeProvider" ∷ codes "semanticTokensProvider" ∷ codes "monikerProvider" ∷ codes "typeHierarchyProvider" ∷ codes "inlineValueProvider" ∷ codes "inlayHintProvider" ∷ codes "diagnosticProvider" ∷ codes "workspaceSymbolProvider" ∷ codes "workspace" ∷ codes "experimental" ∷ []) json it.more };
 
-    fn from_json(alloc: Global, value: &Value) -> Result<ServerCapabilities, Misfit> {
+    fn from_json(alloc: Global, value: &JsonRef<'_>) -> Result<ServerCapabilities, Misfit> {
         match Members::new(alloc, value)
             .optional("positionEncoding")
             .number_or("textDocumentSync", "change")
@@ -490,7 +491,7 @@ impl ToJson for TextDocumentSyncKind {
 impl FromJson for TextDocumentSyncKind {
     ghost reads = { λ json it. IsWithin 0 2 json it.0 };
 
-    fn from_json(alloc: Global, value: &Value) -> Result<TextDocumentSyncKind, Misfit> {
+    fn from_json(alloc: Global, value: &JsonRef<'_>) -> Result<TextDocumentSyncKind, Misfit> {
         match number_within(alloc, value, 0, 2) {
             Ok(number) => Ok(TextDocumentSyncKind(number)),
             Err(misfit) => Err(misfit),
@@ -587,7 +588,7 @@ impl FromJson for TextDocumentSyncOptions {
         and Optional ⟦<bool as FromJson>⟧.reads (codes "willSaveWaitUntil") json it.will_save_wait_until
         and Options ⟦<SaveOptions as FromJson>⟧.reads (codes "save") json it.save };
 
-    fn from_json(alloc: Global, value: &Value) -> Result<TextDocumentSyncOptions, Misfit> {
+    fn from_json(alloc: Global, value: &JsonRef<'_>) -> Result<TextDocumentSyncOptions, Misfit> {
         match Members::new(alloc, value)
             .optional("openClose")
             .optional("change")
@@ -646,7 +647,7 @@ impl FromJson for SaveOptions {
     ghost reads = { λ json it. IsObject json
         and Optional ⟦<bool as FromJson>⟧.reads (codes "includeText") json it.include_text };
 
-    fn from_json(alloc: Global, value: &Value) -> Result<SaveOptions, Misfit> {
+    fn from_json(alloc: Global, value: &JsonRef<'_>) -> Result<SaveOptions, Misfit> {
         match Members::new(alloc, value).optional("includeText").end() {
             Ok(read) => {
                 let ((), include_text) = read;
@@ -722,7 +723,7 @@ impl FromJson for CompletionOptions {
         and Optional ⟦<CompletionItemOptions as FromJson>⟧.reads (codes "completionItem") json it.completion_item
         and Optional ⟦<bool as FromJson>⟧.reads (codes "workDoneProgress") json it.work_done_progress };
 
-    fn from_json(alloc: Global, value: &Value) -> Result<CompletionOptions, Misfit> {
+    fn from_json(alloc: Global, value: &JsonRef<'_>) -> Result<CompletionOptions, Misfit> {
         match Members::new(alloc, value)
             .optional("triggerCharacters")
             .optional("resolveProvider")
@@ -787,7 +788,7 @@ impl FromJson for CompletionItemOptions {
     ghost reads = { λ json it. IsObject json
         and Optional ⟦<bool as FromJson>⟧.reads (codes "labelDetailsSupport") json it.label_details_support };
 
-    fn from_json(alloc: Global, value: &Value) -> Result<CompletionItemOptions, Misfit> {
+    fn from_json(alloc: Global, value: &JsonRef<'_>) -> Result<CompletionItemOptions, Misfit> {
         match Members::new(alloc, value)
             .optional("labelDetailsSupport")
             .end()
@@ -854,7 +855,7 @@ impl FromJson for SignatureHelpOptions {
         and Optional ⟦<Vec<String> as FromJson>⟧.reads (codes "retriggerCharacters") json it.retrigger_characters
         and Optional ⟦<bool as FromJson>⟧.reads (codes "workDoneProgress") json it.work_done_progress };
 
-    fn from_json(alloc: Global, value: &Value) -> Result<SignatureHelpOptions, Misfit> {
+    fn from_json(alloc: Global, value: &JsonRef<'_>) -> Result<SignatureHelpOptions, Misfit> {
         match Members::new(alloc, value)
             .optional("triggerCharacters")
             .optional("retriggerCharacters")
@@ -925,7 +926,7 @@ impl FromJson for CodeActionOptions {
         and Optional ⟦<bool as FromJson>⟧.reads (codes "resolveProvider") json it.resolve_provider
         and Optional ⟦<bool as FromJson>⟧.reads (codes "workDoneProgress") json it.work_done_progress };
 
-    fn from_json(alloc: Global, value: &Value) -> Result<CodeActionOptions, Misfit> {
+    fn from_json(alloc: Global, value: &JsonRef<'_>) -> Result<CodeActionOptions, Misfit> {
         match Members::new(alloc, value)
             .optional("codeActionKinds")
             .optional("resolveProvider")
@@ -989,7 +990,7 @@ impl FromJson for CodeLensOptions {
         and Optional ⟦<bool as FromJson>⟧.reads (codes "resolveProvider") json it.resolve_provider
         and Optional ⟦<bool as FromJson>⟧.reads (codes "workDoneProgress") json it.work_done_progress };
 
-    fn from_json(alloc: Global, value: &Value) -> Result<CodeLensOptions, Misfit> {
+    fn from_json(alloc: Global, value: &JsonRef<'_>) -> Result<CodeLensOptions, Misfit> {
         match Members::new(alloc, value)
             .optional("resolveProvider")
             .optional("workDoneProgress")
@@ -1051,7 +1052,7 @@ impl FromJson for DocumentLinkOptions {
         and Optional ⟦<bool as FromJson>⟧.reads (codes "resolveProvider") json it.resolve_provider
         and Optional ⟦<bool as FromJson>⟧.reads (codes "workDoneProgress") json it.work_done_progress };
 
-    fn from_json(alloc: Global, value: &Value) -> Result<DocumentLinkOptions, Misfit> {
+    fn from_json(alloc: Global, value: &JsonRef<'_>) -> Result<DocumentLinkOptions, Misfit> {
         match Members::new(alloc, value)
             .optional("resolveProvider")
             .optional("workDoneProgress")
@@ -1113,7 +1114,10 @@ impl FromJson for DocumentOnTypeFormattingOptions {
         and Required ⟦<String as FromJson>⟧.reads (codes "firstTriggerCharacter") json it.first_trigger_character
         and Optional ⟦<Vec<String> as FromJson>⟧.reads (codes "moreTriggerCharacter") json it.more_trigger_character };
 
-    fn from_json(alloc: Global, value: &Value) -> Result<DocumentOnTypeFormattingOptions, Misfit> {
+    fn from_json(
+        alloc: Global,
+        value: &JsonRef<'_>,
+    ) -> Result<DocumentOnTypeFormattingOptions, Misfit> {
         match Members::new(alloc, value)
             .required("firstTriggerCharacter")
             .optional("moreTriggerCharacter")
@@ -1175,7 +1179,7 @@ impl FromJson for RenameOptions {
         and Optional ⟦<bool as FromJson>⟧.reads (codes "prepareProvider") json it.prepare_provider
         and Optional ⟦<bool as FromJson>⟧.reads (codes "workDoneProgress") json it.work_done_progress };
 
-    fn from_json(alloc: Global, value: &Value) -> Result<RenameOptions, Misfit> {
+    fn from_json(alloc: Global, value: &JsonRef<'_>) -> Result<RenameOptions, Misfit> {
         match Members::new(alloc, value)
             .optional("prepareProvider")
             .optional("workDoneProgress")
@@ -1237,7 +1241,7 @@ impl FromJson for ExecuteCommandOptions {
         and Required ⟦<Vec<String> as FromJson>⟧.reads (codes "commands") json it.commands
         and Optional ⟦<bool as FromJson>⟧.reads (codes "workDoneProgress") json it.work_done_progress };
 
-    fn from_json(alloc: Global, value: &Value) -> Result<ExecuteCommandOptions, Misfit> {
+    fn from_json(alloc: Global, value: &JsonRef<'_>) -> Result<ExecuteCommandOptions, Misfit> {
         match Members::new(alloc, value)
             .required("commands")
             .optional("workDoneProgress")
@@ -1313,7 +1317,7 @@ impl FromJson for SemanticTokensOptions {
         and Options ⟦<SemanticTokensFullOptions as FromJson>⟧.reads (codes "full") json it.full
         and Optional ⟦<bool as FromJson>⟧.reads (codes "workDoneProgress") json it.work_done_progress };
 
-    fn from_json(alloc: Global, value: &Value) -> Result<SemanticTokensOptions, Misfit> {
+    fn from_json(alloc: Global, value: &JsonRef<'_>) -> Result<SemanticTokensOptions, Misfit> {
         match Members::new(alloc, value)
             .required("legend")
             .offered("range")
@@ -1368,7 +1372,7 @@ impl FromJson for SemanticTokensFullOptions {
     ghost reads = { λ json it. IsObject json
         and Optional ⟦<bool as FromJson>⟧.reads (codes "delta") json it.delta };
 
-    fn from_json(alloc: Global, value: &Value) -> Result<SemanticTokensFullOptions, Misfit> {
+    fn from_json(alloc: Global, value: &JsonRef<'_>) -> Result<SemanticTokensFullOptions, Misfit> {
         match Members::new(alloc, value).optional("delta").end() {
             Ok(read) => {
                 let ((), delta) = read;
@@ -1406,7 +1410,7 @@ impl FromJson for SemanticTokensLegend {
         and Required ⟦<Vec<String> as FromJson>⟧.reads (codes "tokenTypes") json it.token_types
         and Required ⟦<Vec<String> as FromJson>⟧.reads (codes "tokenModifiers") json it.token_modifiers };
 
-    fn from_json(alloc: Global, value: &Value) -> Result<SemanticTokensLegend, Misfit> {
+    fn from_json(alloc: Global, value: &JsonRef<'_>) -> Result<SemanticTokensLegend, Misfit> {
         match Members::new(alloc, value)
             .required("tokenTypes")
             .required("tokenModifiers")
@@ -1482,7 +1486,7 @@ impl FromJson for DiagnosticOptions {
         and Required ⟦<bool as FromJson>⟧.reads (codes "workspaceDiagnostics") json it.workspace_diagnostics
         and Optional ⟦<bool as FromJson>⟧.reads (codes "workDoneProgress") json it.work_done_progress };
 
-    fn from_json(alloc: Global, value: &Value) -> Result<DiagnosticOptions, Misfit> {
+    fn from_json(alloc: Global, value: &JsonRef<'_>) -> Result<DiagnosticOptions, Misfit> {
         match Members::new(alloc, value)
             .optional("identifier")
             .required("interFileDependencies")
@@ -1551,7 +1555,7 @@ impl FromJson for WorkspaceOptions {
         and Optional ⟦<WorkspaceFoldersServerCapabilities as FromJson>⟧.reads (codes "workspaceFolders") json it.workspace_folders
         and Optional ⟦<Value as FromJson>⟧.reads (codes "fileOperations") json it.file_operations };
 
-    fn from_json(alloc: Global, value: &Value) -> Result<WorkspaceOptions, Misfit> {
+    fn from_json(alloc: Global, value: &JsonRef<'_>) -> Result<WorkspaceOptions, Misfit> {
         match Members::new(alloc, value)
             .optional("workspaceFolders")
             .optional("fileOperations")
@@ -1615,7 +1619,7 @@ impl FromJson for WorkspaceFoldersServerCapabilities {
 
     fn from_json(
         alloc: Global,
-        value: &Value,
+        value: &JsonRef<'_>,
     ) -> Result<WorkspaceFoldersServerCapabilities, Misfit> {
         match Members::new(alloc, value)
             .optional("supported")
@@ -1668,7 +1672,7 @@ impl FromJson for ChangeNotifications {
       | Id it ↦ NoneReads ⟦<bool as FromJson>⟧.reads json × ⟦<String as FromJson>⟧.reads json it
     ] };
 
-    fn from_json(alloc: Global, value: &Value) -> Result<ChangeNotifications, Misfit> {
+    fn from_json(alloc: Global, value: &JsonRef<'_>) -> Result<ChangeNotifications, Misfit> {
         if let Some(it) = fitting(alloc, value)? {
             return Ok(ChangeNotifications::Wanted(it));
         }

@@ -5,6 +5,7 @@ ghost use Rattle.serde_json.specs.Find.{as_str, of_integer};
 ghost use Rattle.lsp_types.specs.Reads.{IsInt};
 
 use crate::json::{FromJson, Misfit, ToJson, fitting};
+use lsp_json::JsonRef;
 use serde_json::Value;
 use std::alloc::{AllocError, Global};
 
@@ -36,7 +37,7 @@ impl FromJson for NumberOrString {
 
     ghost reads = { λ json. elim [ Number z ↦ IsInt json z | String text ↦ as_str json ≡ Some (string_bytes text) ] };
 
-    fn from_json(alloc: Global, value: &Value) -> Result<NumberOrString, Misfit> {
+    fn from_json(alloc: Global, value: &JsonRef<'_>) -> Result<NumberOrString, Misfit> {
         if let Some(text) = fitting(alloc, value)? {
             return Ok(NumberOrString::String(text));
         }
@@ -77,7 +78,7 @@ impl FromJson for MarkupKind {
       | Markdown ↦ as_str json ≡ Some (codes "markdown")
     ] };
 
-    fn from_json(_alloc: Global, value: &Value) -> Result<MarkupKind, Misfit> {
+    fn from_json(_alloc: Global, value: &JsonRef<'_>) -> Result<MarkupKind, Misfit> {
         match value.as_str() {
             Some("plaintext") => Ok(MarkupKind::PlainText),
             Some("markdown") => Ok(MarkupKind::Markdown),

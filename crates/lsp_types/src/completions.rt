@@ -12,6 +12,7 @@ use crate::hovers::Documentation;
 use crate::json::{FromJson, Members, Misfit, Object, ToJson, fitting, number_within};
 use crate::progress::ProgressToken;
 use crate::workspace::Command;
+use lsp_json::JsonRef;
 use lsp_text::{Position, Range};
 use serde_json::Value;
 use std::alloc::{AllocError, Global};
@@ -84,7 +85,7 @@ impl ToJson for CompletionItemKind {
 impl FromJson for CompletionItemKind {
     ghost reads = { λ json it. IsWithin 1 25 json it.0 };
 
-    fn from_json(alloc: Global, value: &Value) -> Result<CompletionItemKind, Misfit> {
+    fn from_json(alloc: Global, value: &JsonRef<'_>) -> Result<CompletionItemKind, Misfit> {
         match number_within(alloc, value, 1, 25) {
             Ok(number) => Ok(CompletionItemKind(number)),
             Err(misfit) => Err(misfit),
@@ -114,7 +115,7 @@ impl ToJson for InsertTextFormat {
 impl FromJson for InsertTextFormat {
     ghost reads = { λ json it. IsWithin 1 2 json it.0 };
 
-    fn from_json(alloc: Global, value: &Value) -> Result<InsertTextFormat, Misfit> {
+    fn from_json(alloc: Global, value: &JsonRef<'_>) -> Result<InsertTextFormat, Misfit> {
         match number_within(alloc, value, 1, 2) {
             Ok(number) => Ok(InsertTextFormat(number)),
             Err(misfit) => Err(misfit),
@@ -142,7 +143,7 @@ impl ToJson for CompletionItemTag {
 impl FromJson for CompletionItemTag {
     ghost reads = { λ json it. IsWithin 1 1 json it.0 };
 
-    fn from_json(alloc: Global, value: &Value) -> Result<CompletionItemTag, Misfit> {
+    fn from_json(alloc: Global, value: &JsonRef<'_>) -> Result<CompletionItemTag, Misfit> {
         match number_within(alloc, value, 1, 1) {
             Ok(number) => Ok(CompletionItemTag(number)),
             Err(misfit) => Err(misfit),
@@ -173,7 +174,7 @@ impl ToJson for InsertTextMode {
 impl FromJson for InsertTextMode {
     ghost reads = { λ json it. IsWithin 1 2 json it.0 };
 
-    fn from_json(alloc: Global, value: &Value) -> Result<InsertTextMode, Misfit> {
+    fn from_json(alloc: Global, value: &JsonRef<'_>) -> Result<InsertTextMode, Misfit> {
         match number_within(alloc, value, 1, 2) {
             Ok(number) => Ok(InsertTextMode(number)),
             Err(misfit) => Err(misfit),
@@ -225,7 +226,7 @@ impl FromJson for CompletionItemLabelDetails {
         and Optional ⟦<String as FromJson>⟧.reads (codes "detail") json it.detail
         and Optional ⟦<String as FromJson>⟧.reads (codes "description") json it.description };
 
-    fn from_json(alloc: Global, value: &Value) -> Result<CompletionItemLabelDetails, Misfit> {
+    fn from_json(alloc: Global, value: &JsonRef<'_>) -> Result<CompletionItemLabelDetails, Misfit> {
         match Members::new(alloc, value)
             .optional("detail")
             .optional("description")
@@ -275,7 +276,7 @@ impl FromJson for InsertReplaceEdit {
         and Required ⟦<Range as FromJson>⟧.reads (codes "insert") json it.insert
         and Required ⟦<Range as FromJson>⟧.reads (codes "replace") json it.replace };
 
-    fn from_json(alloc: Global, value: &Value) -> Result<InsertReplaceEdit, Misfit> {
+    fn from_json(alloc: Global, value: &JsonRef<'_>) -> Result<InsertReplaceEdit, Misfit> {
         match Members::new(alloc, value)
             .required("newText")
             .required("insert")
@@ -328,7 +329,7 @@ impl FromJson for CompletionTextEdit {
       | Edit it ↦ NoneReads ⟦<InsertReplaceEdit as FromJson>⟧.reads json × ⟦<TextEdit as FromJson>⟧.reads json it
     ] };
 
-    fn from_json(alloc: Global, value: &Value) -> Result<CompletionTextEdit, Misfit> {
+    fn from_json(alloc: Global, value: &JsonRef<'_>) -> Result<CompletionTextEdit, Misfit> {
         if let Some(it) = fitting(alloc, value)? {
             return Ok(CompletionTextEdit::InsertReplace(it));
         }
@@ -510,7 +511,7 @@ impl FromJson for CompletionItem {
         and Optional ⟦<Value as FromJson>⟧.reads (codes "data") json it.«data»
         and Beside (codes "label" ∷ codes "labelDetails" ∷ codes "kind" ∷ codes "tags" ∷ codes "detail" ∷ codes "documentation" ∷ codes "deprecated" ∷ codes "preselect" ∷ codes "sortText" ∷ codes "filterText" ∷ codes "insertText" ∷ codes "insertTextFormat" ∷ codes "insertTextMode" ∷ codes "textEdit" ∷ codes "textEditText" ∷ codes "additionalTextEdits" ∷ codes "commitCharacters" ∷ codes "command" ∷ codes "data" ∷ []) json it.more };
 
-    fn from_json(alloc: Global, value: &Value) -> Result<CompletionItem, Misfit> {
+    fn from_json(alloc: Global, value: &JsonRef<'_>) -> Result<CompletionItem, Misfit> {
         match Members::new(alloc, value)
             .required("label")
             .optional("labelDetails")
@@ -630,7 +631,7 @@ impl FromJson for EditRangeWithInsertReplace {
         and Required ⟦<Range as FromJson>⟧.reads (codes "insert") json it.insert
         and Required ⟦<Range as FromJson>⟧.reads (codes "replace") json it.replace };
 
-    fn from_json(alloc: Global, value: &Value) -> Result<EditRangeWithInsertReplace, Misfit> {
+    fn from_json(alloc: Global, value: &JsonRef<'_>) -> Result<EditRangeWithInsertReplace, Misfit> {
         match Members::new(alloc, value)
             .required("insert")
             .required("replace")
@@ -678,7 +679,7 @@ impl FromJson for CompletionEditRange {
       | Range it ↦ NoneReads ⟦<EditRangeWithInsertReplace as FromJson>⟧.reads json × ⟦<Range as FromJson>⟧.reads json it
     ] };
 
-    fn from_json(alloc: Global, value: &Value) -> Result<CompletionEditRange, Misfit> {
+    fn from_json(alloc: Global, value: &JsonRef<'_>) -> Result<CompletionEditRange, Misfit> {
         if let Some(it) = fitting(alloc, value)? {
             return Ok(CompletionEditRange::InsertReplace(it));
         }
@@ -754,7 +755,7 @@ impl FromJson for CompletionItemDefaults {
         and Optional ⟦<InsertTextMode as FromJson>⟧.reads (codes "insertTextMode") json it.insert_text_mode
         and Optional ⟦<Value as FromJson>⟧.reads (codes "data") json it.«data» };
 
-    fn from_json(alloc: Global, value: &Value) -> Result<CompletionItemDefaults, Misfit> {
+    fn from_json(alloc: Global, value: &JsonRef<'_>) -> Result<CompletionItemDefaults, Misfit> {
         match Members::new(alloc, value)
             .optional("commitCharacters")
             .optional("editRange")
@@ -806,7 +807,7 @@ impl ToJson for CompletionTriggerKind {
 impl FromJson for CompletionTriggerKind {
     ghost reads = { λ json it. IsWithin 1 3 json it.0 };
 
-    fn from_json(alloc: Global, value: &Value) -> Result<CompletionTriggerKind, Misfit> {
+    fn from_json(alloc: Global, value: &JsonRef<'_>) -> Result<CompletionTriggerKind, Misfit> {
         match number_within(alloc, value, 1, 3) {
             Ok(number) => Ok(CompletionTriggerKind(number)),
             Err(misfit) => Err(misfit),
@@ -841,7 +842,7 @@ impl FromJson for CompletionContext {
         and Required ⟦<CompletionTriggerKind as FromJson>⟧.reads (codes "triggerKind") json it.trigger_kind
         and Optional ⟦<String as FromJson>⟧.reads (codes "triggerCharacter") json it.trigger_character };
 
-    fn from_json(alloc: Global, value: &Value) -> Result<CompletionContext, Misfit> {
+    fn from_json(alloc: Global, value: &JsonRef<'_>) -> Result<CompletionContext, Misfit> {
         match Members::new(alloc, value)
             .required("triggerKind")
             .optional("triggerCharacter")
@@ -902,7 +903,7 @@ impl FromJson for CompletionParams {
         and IfFits ⟦<ProgressToken as FromJson>⟧.reads (codes "workDoneToken") json it.work_done_token
         and IfFits ⟦<ProgressToken as FromJson>⟧.reads (codes "partialResultToken") json it.partial_result_token };
 
-    fn from_json(alloc: Global, value: &Value) -> Result<CompletionParams, Misfit> {
+    fn from_json(alloc: Global, value: &JsonRef<'_>) -> Result<CompletionParams, Misfit> {
         match Members::new(alloc, value)
             .required("textDocument")
             .required("position")
@@ -981,7 +982,7 @@ impl FromJson for CompletionList {
         and Optional ⟦<CompletionItemDefaults as FromJson>⟧.reads (codes "itemDefaults") json it.item_defaults
         and Required ⟦<Vec<CompletionItem> as FromJson>⟧.reads (codes "items") json it.items };
 
-    fn from_json(alloc: Global, value: &Value) -> Result<CompletionList, Misfit> {
+    fn from_json(alloc: Global, value: &JsonRef<'_>) -> Result<CompletionList, Misfit> {
         match Members::new(alloc, value)
             .required("isIncomplete")
             .optional("itemDefaults")
@@ -1034,7 +1035,7 @@ impl FromJson for CompletionResult {
       | List it ↦ NoneReads ⟦<Vec<CompletionItem> as FromJson>⟧.reads json × ⟦<CompletionList as FromJson>⟧.reads json it
     ] };
 
-    fn from_json(alloc: Global, value: &Value) -> Result<CompletionResult, Misfit> {
+    fn from_json(alloc: Global, value: &JsonRef<'_>) -> Result<CompletionResult, Misfit> {
         if let Some(it) = fitting(alloc, value)? {
             return Ok(CompletionResult::Items(it));
         }

@@ -8,6 +8,7 @@ ghost use Rattle.lsp_types.specs.Reads.{IsObject, IsWithin, Optional, Required, 
 use crate::choices::NumberOrString;
 use crate::documents::Location;
 use crate::json::{FromJson, Members, Misfit, Object, ToJson, number_within};
+use lsp_json::JsonRef;
 use lsp_text::Range;
 use serde_json::Value;
 use std::alloc::{AllocError, Global};
@@ -38,7 +39,7 @@ impl ToJson for DiagnosticSeverity {
 impl FromJson for DiagnosticSeverity {
     ghost reads = { λ json it. IsWithin 1 4 json it.0 };
 
-    fn from_json(alloc: Global, value: &Value) -> Result<DiagnosticSeverity, Misfit> {
+    fn from_json(alloc: Global, value: &JsonRef<'_>) -> Result<DiagnosticSeverity, Misfit> {
         match number_within(alloc, value, 1, 4) {
             Ok(number) => Ok(DiagnosticSeverity(number)),
             Err(misfit) => Err(misfit),
@@ -68,7 +69,7 @@ impl ToJson for DiagnosticTag {
 impl FromJson for DiagnosticTag {
     ghost reads = { λ json it. IsWithin 1 2 json it.0 };
 
-    fn from_json(alloc: Global, value: &Value) -> Result<DiagnosticTag, Misfit> {
+    fn from_json(alloc: Global, value: &JsonRef<'_>) -> Result<DiagnosticTag, Misfit> {
         match number_within(alloc, value, 1, 2) {
             Ok(number) => Ok(DiagnosticTag(number)),
             Err(misfit) => Err(misfit),
@@ -103,7 +104,10 @@ impl FromJson for DiagnosticRelatedInformation {
         and Required ⟦<Location as FromJson>⟧.reads (codes "location") json it.location
         and Required ⟦<String as FromJson>⟧.reads (codes "message") json it.message };
 
-    fn from_json(alloc: Global, value: &Value) -> Result<DiagnosticRelatedInformation, Misfit> {
+    fn from_json(
+        alloc: Global,
+        value: &JsonRef<'_>,
+    ) -> Result<DiagnosticRelatedInformation, Misfit> {
         match Members::new(alloc, value)
             .required("location")
             .required("message")
@@ -138,7 +142,7 @@ impl FromJson for CodeDescription {
     ghost reads = { λ json it. IsObject json
         and Required ⟦<String as FromJson>⟧.reads (codes "href") json it.href };
 
-    fn from_json(alloc: Global, value: &Value) -> Result<CodeDescription, Misfit> {
+    fn from_json(alloc: Global, value: &JsonRef<'_>) -> Result<CodeDescription, Misfit> {
         match Members::new(alloc, value).required("href").end() {
             Ok(read) => {
                 let ((), href) = read;
@@ -242,7 +246,7 @@ impl FromJson for Diagnostic {
         and Optional ⟦<Vec<DiagnosticRelatedInformation> as FromJson>⟧.reads (codes "relatedInformation") json it.related_information
         and Optional ⟦<Value as FromJson>⟧.reads (codes "data") json it.«data» };
 
-    fn from_json(alloc: Global, value: &Value) -> Result<Diagnostic, Misfit> {
+    fn from_json(alloc: Global, value: &JsonRef<'_>) -> Result<Diagnostic, Misfit> {
         match Members::new(alloc, value)
             .required("range")
             .optional("severity")
@@ -333,7 +337,7 @@ impl FromJson for PublishDiagnosticsParams {
         and Optional ⟦<i32 as FromJson>⟧.reads (codes "version") json it.version
         and Required ⟦<Vec<Diagnostic> as FromJson>⟧.reads (codes "diagnostics") json it.diagnostics };
 
-    fn from_json(alloc: Global, value: &Value) -> Result<PublishDiagnosticsParams, Misfit> {
+    fn from_json(alloc: Global, value: &JsonRef<'_>) -> Result<PublishDiagnosticsParams, Misfit> {
         match Members::new(alloc, value)
             .required("uri")
             .optional("version")

@@ -7,6 +7,7 @@ ghost use Rattle.lsp_types.specs.Reads.{IfFits, IsObject, IsWithin, NoneReads, O
 
 use crate::json::{FromJson, Members, Misfit, Object, ToJson, fitting, number_within};
 use crate::progress::ProgressToken;
+use lsp_json::JsonRef;
 use lsp_text::{ContentChange, Position, Range};
 use serde_json::Value;
 use std::alloc::{AllocError, Global};
@@ -38,7 +39,7 @@ impl FromJson for Location {
         and Required ⟦<String as FromJson>⟧.reads (codes "uri") json it.uri
         and Required ⟦<Range as FromJson>⟧.reads (codes "range") json it.range };
 
-    fn from_json(alloc: Global, value: &Value) -> Result<Location, Misfit> {
+    fn from_json(alloc: Global, value: &JsonRef<'_>) -> Result<Location, Misfit> {
         match Members::new(alloc, value)
             .required("uri")
             .required("range")
@@ -115,7 +116,7 @@ impl FromJson for LocationLink {
         and Required ⟦<Range as FromJson>⟧.reads (codes "targetRange") json it.target_range
         and Required ⟦<Range as FromJson>⟧.reads (codes "targetSelectionRange") json it.target_selection_range };
 
-    fn from_json(alloc: Global, value: &Value) -> Result<LocationLink, Misfit> {
+    fn from_json(alloc: Global, value: &JsonRef<'_>) -> Result<LocationLink, Misfit> {
         match Members::new(alloc, value)
             .optional("originSelectionRange")
             .required("targetUri")
@@ -179,7 +180,7 @@ impl FromJson for DefinitionResult {
       | Links it ↦ NoneReads ⟦<Location as FromJson>⟧.reads json × NoneReads ⟦<Vec<Location> as FromJson>⟧.reads json × ⟦<Vec<LocationLink> as FromJson>⟧.reads json it
     ] };
 
-    fn from_json(alloc: Global, value: &Value) -> Result<DefinitionResult, Misfit> {
+    fn from_json(alloc: Global, value: &JsonRef<'_>) -> Result<DefinitionResult, Misfit> {
         if let Some(it) = fitting(alloc, value)? {
             return Ok(DefinitionResult::One(it));
         }
@@ -213,7 +214,7 @@ impl FromJson for TextDocumentIdentifier {
     ghost reads = { λ json it. IsObject json
         and Required ⟦<String as FromJson>⟧.reads (codes "uri") json it.uri };
 
-    fn from_json(alloc: Global, value: &Value) -> Result<TextDocumentIdentifier, Misfit> {
+    fn from_json(alloc: Global, value: &JsonRef<'_>) -> Result<TextDocumentIdentifier, Misfit> {
         match Members::new(alloc, value).required("uri").end() {
             Ok(read) => {
                 let ((), uri) = read;
@@ -252,7 +253,10 @@ impl FromJson for VersionedTextDocumentIdentifier {
         and Required ⟦<String as FromJson>⟧.reads (codes "uri") json it.uri
         and IfFits ⟦<i32 as FromJson>⟧.reads (codes "version") json it.version };
 
-    fn from_json(alloc: Global, value: &Value) -> Result<VersionedTextDocumentIdentifier, Misfit> {
+    fn from_json(
+        alloc: Global,
+        value: &JsonRef<'_>,
+    ) -> Result<VersionedTextDocumentIdentifier, Misfit> {
         match Members::new(alloc, value)
             .required("uri")
             .if_fits("version")
@@ -305,7 +309,7 @@ impl FromJson for TextDocumentItem {
         and IfFits ⟦<i32 as FromJson>⟧.reads (codes "version") json it.version
         and Required ⟦<String as FromJson>⟧.reads (codes "text") json it.text };
 
-    fn from_json(alloc: Global, value: &Value) -> Result<TextDocumentItem, Misfit> {
+    fn from_json(alloc: Global, value: &JsonRef<'_>) -> Result<TextDocumentItem, Misfit> {
         match Members::new(alloc, value)
             .required("uri")
             .text_or_empty("languageId")
@@ -349,7 +353,7 @@ impl FromJson for DidOpenTextDocumentParams {
     ghost reads = { λ json it. IsObject json
         and Required ⟦<TextDocumentItem as FromJson>⟧.reads (codes "textDocument") json it.text_document };
 
-    fn from_json(alloc: Global, value: &Value) -> Result<DidOpenTextDocumentParams, Misfit> {
+    fn from_json(alloc: Global, value: &JsonRef<'_>) -> Result<DidOpenTextDocumentParams, Misfit> {
         match Members::new(alloc, value).required("textDocument").end() {
             Ok(read) => {
                 let ((), text_document) = read;
@@ -387,7 +391,10 @@ impl FromJson for DidChangeTextDocumentParams {
         and Required ⟦<VersionedTextDocumentIdentifier as FromJson>⟧.reads (codes "textDocument") json it.text_document
         and Required ⟦<Vec<ContentChange> as FromJson>⟧.reads (codes "contentChanges") json it.content_changes };
 
-    fn from_json(alloc: Global, value: &Value) -> Result<DidChangeTextDocumentParams, Misfit> {
+    fn from_json(
+        alloc: Global,
+        value: &JsonRef<'_>,
+    ) -> Result<DidChangeTextDocumentParams, Misfit> {
         match Members::new(alloc, value)
             .required("textDocument")
             .required("contentChanges")
@@ -432,7 +439,7 @@ impl FromJson for DidSaveTextDocumentParams {
         and Required ⟦<TextDocumentIdentifier as FromJson>⟧.reads (codes "textDocument") json it.text_document
         and Optional ⟦<String as FromJson>⟧.reads (codes "text") json it.text };
 
-    fn from_json(alloc: Global, value: &Value) -> Result<DidSaveTextDocumentParams, Misfit> {
+    fn from_json(alloc: Global, value: &JsonRef<'_>) -> Result<DidSaveTextDocumentParams, Misfit> {
         match Members::new(alloc, value)
             .required("textDocument")
             .optional("text")
@@ -478,7 +485,7 @@ impl FromJson for WillSaveTextDocumentParams {
         and Required ⟦<TextDocumentIdentifier as FromJson>⟧.reads (codes "textDocument") json it.text_document
         and Required ⟦<TextDocumentSaveReason as FromJson>⟧.reads (codes "reason") json it.reason };
 
-    fn from_json(alloc: Global, value: &Value) -> Result<WillSaveTextDocumentParams, Misfit> {
+    fn from_json(alloc: Global, value: &JsonRef<'_>) -> Result<WillSaveTextDocumentParams, Misfit> {
         match Members::new(alloc, value)
             .required("textDocument")
             .required("reason")
@@ -520,7 +527,7 @@ impl ToJson for TextDocumentSaveReason {
 impl FromJson for TextDocumentSaveReason {
     ghost reads = { λ json it. IsWithin 1 3 json it.0 };
 
-    fn from_json(alloc: Global, value: &Value) -> Result<TextDocumentSaveReason, Misfit> {
+    fn from_json(alloc: Global, value: &JsonRef<'_>) -> Result<TextDocumentSaveReason, Misfit> {
         match number_within(alloc, value, 1, 3) {
             Ok(number) => Ok(TextDocumentSaveReason(number)),
             Err(misfit) => Err(misfit),
@@ -550,7 +557,7 @@ impl FromJson for DidCloseTextDocumentParams {
     ghost reads = { λ json it. IsObject json
         and Required ⟦<TextDocumentIdentifier as FromJson>⟧.reads (codes "textDocument") json it.text_document };
 
-    fn from_json(alloc: Global, value: &Value) -> Result<DidCloseTextDocumentParams, Misfit> {
+    fn from_json(alloc: Global, value: &JsonRef<'_>) -> Result<DidCloseTextDocumentParams, Misfit> {
         match Members::new(alloc, value).required("textDocument").end() {
             Ok(read) => {
                 let ((), text_document) = read;
@@ -594,7 +601,7 @@ impl FromJson for DocumentSymbolParams {
         and IfFits ⟦<ProgressToken as FromJson>⟧.reads (codes "workDoneToken") json it.work_done_token
         and IfFits ⟦<ProgressToken as FromJson>⟧.reads (codes "partialResultToken") json it.partial_result_token };
 
-    fn from_json(alloc: Global, value: &Value) -> Result<DocumentSymbolParams, Misfit> {
+    fn from_json(alloc: Global, value: &JsonRef<'_>) -> Result<DocumentSymbolParams, Misfit> {
         match Members::new(alloc, value)
             .required("textDocument")
             .if_fits("workDoneToken")
@@ -648,7 +655,7 @@ impl FromJson for TextDocumentPositionParams {
         and Required ⟦<TextDocumentIdentifier as FromJson>⟧.reads (codes "textDocument") json it.text_document
         and Required ⟦<Position as FromJson>⟧.reads (codes "position") json it.position };
 
-    fn from_json(alloc: Global, value: &Value) -> Result<TextDocumentPositionParams, Misfit> {
+    fn from_json(alloc: Global, value: &JsonRef<'_>) -> Result<TextDocumentPositionParams, Misfit> {
         match Members::new(alloc, value)
             .required("textDocument")
             .required("position")
@@ -698,7 +705,7 @@ impl FromJson for HoverParams {
         and Required ⟦<Position as FromJson>⟧.reads (codes "position") json it.position
         and IfFits ⟦<ProgressToken as FromJson>⟧.reads (codes "workDoneToken") json it.work_done_token };
 
-    fn from_json(alloc: Global, value: &Value) -> Result<HoverParams, Misfit> {
+    fn from_json(alloc: Global, value: &JsonRef<'_>) -> Result<HoverParams, Misfit> {
         match Members::new(alloc, value)
             .required("textDocument")
             .required("position")
@@ -759,7 +766,7 @@ impl FromJson for DefinitionParams {
         and IfFits ⟦<ProgressToken as FromJson>⟧.reads (codes "workDoneToken") json it.work_done_token
         and IfFits ⟦<ProgressToken as FromJson>⟧.reads (codes "partialResultToken") json it.partial_result_token };
 
-    fn from_json(alloc: Global, value: &Value) -> Result<DefinitionParams, Misfit> {
+    fn from_json(alloc: Global, value: &JsonRef<'_>) -> Result<DefinitionParams, Misfit> {
         match Members::new(alloc, value)
             .required("textDocument")
             .required("position")
@@ -825,7 +832,7 @@ impl FromJson for InlayHintParams {
         and Required ⟦<Range as FromJson>⟧.reads (codes "range") json it.range
         and IfFits ⟦<ProgressToken as FromJson>⟧.reads (codes "workDoneToken") json it.work_done_token };
 
-    fn from_json(alloc: Global, value: &Value) -> Result<InlayHintParams, Misfit> {
+    fn from_json(alloc: Global, value: &JsonRef<'_>) -> Result<InlayHintParams, Misfit> {
         match Members::new(alloc, value)
             .required("textDocument")
             .required("range")
@@ -883,7 +890,7 @@ impl FromJson for SemanticTokensRangeParams {
         and IfFits ⟦<ProgressToken as FromJson>⟧.reads (codes "workDoneToken") json it.work_done_token
         and IfFits ⟦<ProgressToken as FromJson>⟧.reads (codes "partialResultToken") json it.partial_result_token };
 
-    fn from_json(alloc: Global, value: &Value) -> Result<SemanticTokensRangeParams, Misfit> {
+    fn from_json(alloc: Global, value: &JsonRef<'_>) -> Result<SemanticTokensRangeParams, Misfit> {
         match Members::new(alloc, value)
             .required("textDocument")
             .required("range")
@@ -951,7 +958,7 @@ impl FromJson for ReferenceParams {
         and IfFits ⟦<ProgressToken as FromJson>⟧.reads (codes "workDoneToken") json it.work_done_token
         and IfFits ⟦<ProgressToken as FromJson>⟧.reads (codes "partialResultToken") json it.partial_result_token };
 
-    fn from_json(alloc: Global, value: &Value) -> Result<ReferenceParams, Misfit> {
+    fn from_json(alloc: Global, value: &JsonRef<'_>) -> Result<ReferenceParams, Misfit> {
         match Members::new(alloc, value)
             .required("textDocument")
             .required("position")
@@ -1001,7 +1008,7 @@ impl FromJson for ReferenceContext {
     ghost reads = { λ json it. IsObject json
         and Required ⟦<bool as FromJson>⟧.reads (codes "includeDeclaration") json it.include_declaration };
 
-    fn from_json(alloc: Global, value: &Value) -> Result<ReferenceContext, Misfit> {
+    fn from_json(alloc: Global, value: &JsonRef<'_>) -> Result<ReferenceContext, Misfit> {
         match Members::new(alloc, value)
             .required("includeDeclaration")
             .end()

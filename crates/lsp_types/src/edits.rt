@@ -8,6 +8,7 @@ ghost use Rattle.lsp_types.specs.Reads.{IfFits, IsObject, Named, NoneReads, Opti
 use crate::documents::TextDocumentIdentifier;
 use crate::json::{FromJson, Members, Misfit, Object, ToJson, fitting};
 use crate::progress::ProgressToken;
+use lsp_json::JsonRef;
 use lsp_text::{Position, Range};
 use serde_json::Value;
 use std::alloc::{AllocError, Global};
@@ -40,7 +41,7 @@ impl FromJson for TextEdit {
         and Required ⟦<Range as FromJson>⟧.reads (codes "range") json it.range
         and Required ⟦<String as FromJson>⟧.reads (codes "newText") json it.new_text };
 
-    fn from_json(alloc: Global, value: &Value) -> Result<TextEdit, Misfit> {
+    fn from_json(alloc: Global, value: &JsonRef<'_>) -> Result<TextEdit, Misfit> {
         match Members::new(alloc, value)
             .required("range")
             .required("newText")
@@ -84,7 +85,7 @@ impl FromJson for OptionalVersionedTextDocumentIdentifier {
 
     fn from_json(
         alloc: Global,
-        value: &Value,
+        value: &JsonRef<'_>,
     ) -> Result<OptionalVersionedTextDocumentIdentifier, Misfit> {
         match Members::new(alloc, value)
             .required("uri")
@@ -132,7 +133,7 @@ impl FromJson for AnnotatedTextEdit {
         and Required ⟦<String as FromJson>⟧.reads (codes "newText") json it.new_text
         and Required ⟦<String as FromJson>⟧.reads (codes "annotationId") json it.annotation_id };
 
-    fn from_json(alloc: Global, value: &Value) -> Result<AnnotatedTextEdit, Misfit> {
+    fn from_json(alloc: Global, value: &JsonRef<'_>) -> Result<AnnotatedTextEdit, Misfit> {
         match Members::new(alloc, value)
             .required("range")
             .required("newText")
@@ -185,7 +186,7 @@ impl FromJson for AnyTextEdit {
       | Plain it ↦ NoneReads ⟦<AnnotatedTextEdit as FromJson>⟧.reads json × ⟦<TextEdit as FromJson>⟧.reads json it
     ] };
 
-    fn from_json(alloc: Global, value: &Value) -> Result<AnyTextEdit, Misfit> {
+    fn from_json(alloc: Global, value: &JsonRef<'_>) -> Result<AnyTextEdit, Misfit> {
         if let Some(it) = fitting(alloc, value)? {
             return Ok(AnyTextEdit::Annotated(it));
         }
@@ -223,7 +224,7 @@ impl FromJson for TextDocumentEdit {
         and Required ⟦<OptionalVersionedTextDocumentIdentifier as FromJson>⟧.reads (codes "textDocument") json it.text_document
         and Required ⟦<Vec<AnyTextEdit> as FromJson>⟧.reads (codes "edits") json it.edits };
 
-    fn from_json(alloc: Global, value: &Value) -> Result<TextDocumentEdit, Misfit> {
+    fn from_json(alloc: Global, value: &JsonRef<'_>) -> Result<TextDocumentEdit, Misfit> {
         match Members::new(alloc, value)
             .required("textDocument")
             .required("edits")
@@ -285,7 +286,7 @@ impl FromJson for CreateFileOptions {
         and Optional ⟦<bool as FromJson>⟧.reads (codes "overwrite") json it.overwrite
         and Optional ⟦<bool as FromJson>⟧.reads (codes "ignoreIfExists") json it.ignore_if_exists };
 
-    fn from_json(alloc: Global, value: &Value) -> Result<CreateFileOptions, Misfit> {
+    fn from_json(alloc: Global, value: &JsonRef<'_>) -> Result<CreateFileOptions, Misfit> {
         match Members::new(alloc, value)
             .optional("overwrite")
             .optional("ignoreIfExists")
@@ -350,7 +351,7 @@ impl FromJson for DeleteFileOptions {
         and Optional ⟦<bool as FromJson>⟧.reads (codes "recursive") json it.recursive
         and Optional ⟦<bool as FromJson>⟧.reads (codes "ignoreIfNotExists") json it.ignore_if_not_exists };
 
-    fn from_json(alloc: Global, value: &Value) -> Result<DeleteFileOptions, Misfit> {
+    fn from_json(alloc: Global, value: &JsonRef<'_>) -> Result<DeleteFileOptions, Misfit> {
         match Members::new(alloc, value)
             .optional("recursive")
             .optional("ignoreIfNotExists")
@@ -422,7 +423,7 @@ impl FromJson for CreateFile {
         and Optional ⟦<CreateFileOptions as FromJson>⟧.reads (codes "options") json it.options
         and Optional ⟦<String as FromJson>⟧.reads (codes "annotationId") json it.annotation_id };
 
-    fn from_json(alloc: Global, value: &Value) -> Result<CreateFile, Misfit> {
+    fn from_json(alloc: Global, value: &JsonRef<'_>) -> Result<CreateFile, Misfit> {
         match Members::new(alloc, value)
             .named("kind", "create")
             .required("uri")
@@ -504,7 +505,7 @@ impl FromJson for RenameFile {
         and Optional ⟦<RenameFileOptions as FromJson>⟧.reads (codes "options") json it.options
         and Optional ⟦<String as FromJson>⟧.reads (codes "annotationId") json it.annotation_id };
 
-    fn from_json(alloc: Global, value: &Value) -> Result<RenameFile, Misfit> {
+    fn from_json(alloc: Global, value: &JsonRef<'_>) -> Result<RenameFile, Misfit> {
         match Members::new(alloc, value)
             .named("kind", "rename")
             .required("oldUri")
@@ -581,7 +582,7 @@ impl FromJson for DeleteFile {
         and Optional ⟦<DeleteFileOptions as FromJson>⟧.reads (codes "options") json it.options
         and Optional ⟦<String as FromJson>⟧.reads (codes "annotationId") json it.annotation_id };
 
-    fn from_json(alloc: Global, value: &Value) -> Result<DeleteFile, Misfit> {
+    fn from_json(alloc: Global, value: &JsonRef<'_>) -> Result<DeleteFile, Misfit> {
         match Members::new(alloc, value)
             .named("kind", "delete")
             .required("uri")
@@ -646,7 +647,7 @@ impl FromJson for DocumentChange {
       | Edit it ↦ NoneReads ⟦<CreateFile as FromJson>⟧.reads json × NoneReads ⟦<RenameFile as FromJson>⟧.reads json × NoneReads ⟦<DeleteFile as FromJson>⟧.reads json × ⟦<TextDocumentEdit as FromJson>⟧.reads json it
     ] };
 
-    fn from_json(alloc: Global, value: &Value) -> Result<DocumentChange, Misfit> {
+    fn from_json(alloc: Global, value: &JsonRef<'_>) -> Result<DocumentChange, Misfit> {
         if let Some(it) = fitting(alloc, value)? {
             return Ok(DocumentChange::Create(it));
         }
@@ -715,7 +716,7 @@ impl FromJson for WorkspaceEdit {
         and Optional ⟦<Vec<DocumentChange> as FromJson>⟧.reads (codes "documentChanges") json it.document_changes
         and Optional ⟦<BTreeMap<String, ChangeAnnotation> as FromJson>⟧.reads (codes "changeAnnotations") json it.change_annotations };
 
-    fn from_json(alloc: Global, value: &Value) -> Result<WorkspaceEdit, Misfit> {
+    fn from_json(alloc: Global, value: &JsonRef<'_>) -> Result<WorkspaceEdit, Misfit> {
         match Members::new(alloc, value)
             .optional("changes")
             .optional("documentChanges")
@@ -786,7 +787,7 @@ impl FromJson for ChangeAnnotation {
         and Optional ⟦<bool as FromJson>⟧.reads (codes "needsConfirmation") json it.needs_confirmation
         and Optional ⟦<String as FromJson>⟧.reads (codes "description") json it.description };
 
-    fn from_json(alloc: Global, value: &Value) -> Result<ChangeAnnotation, Misfit> {
+    fn from_json(alloc: Global, value: &JsonRef<'_>) -> Result<ChangeAnnotation, Misfit> {
         match Members::new(alloc, value)
             .required("label")
             .optional("needsConfirmation")
@@ -843,7 +844,7 @@ impl FromJson for RenameParams {
         and Required ⟦<String as FromJson>⟧.reads (codes "newName") json it.new_name
         and IfFits ⟦<ProgressToken as FromJson>⟧.reads (codes "workDoneToken") json it.work_done_token };
 
-    fn from_json(alloc: Global, value: &Value) -> Result<RenameParams, Misfit> {
+    fn from_json(alloc: Global, value: &JsonRef<'_>) -> Result<RenameParams, Misfit> {
         match Members::new(alloc, value)
             .required("textDocument")
             .required("position")
@@ -892,7 +893,7 @@ impl FromJson for PrepareRenamePlaceholder {
         and Required ⟦<Range as FromJson>⟧.reads (codes "range") json it.range
         and Required ⟦<String as FromJson>⟧.reads (codes "placeholder") json it.placeholder };
 
-    fn from_json(alloc: Global, value: &Value) -> Result<PrepareRenamePlaceholder, Misfit> {
+    fn from_json(alloc: Global, value: &JsonRef<'_>) -> Result<PrepareRenamePlaceholder, Misfit> {
         match Members::new(alloc, value)
             .required("range")
             .required("placeholder")
@@ -929,7 +930,10 @@ impl FromJson for PrepareRenameDefaultBehavior {
     ghost reads = { λ json it. IsObject json
         and Required ⟦<bool as FromJson>⟧.reads (codes "defaultBehavior") json it.default_behavior };
 
-    fn from_json(alloc: Global, value: &Value) -> Result<PrepareRenameDefaultBehavior, Misfit> {
+    fn from_json(
+        alloc: Global,
+        value: &JsonRef<'_>,
+    ) -> Result<PrepareRenameDefaultBehavior, Misfit> {
         match Members::new(alloc, value).required("defaultBehavior").end() {
             Ok(read) => {
                 let ((), default_behavior) = read;
@@ -979,7 +983,7 @@ impl FromJson for PrepareRenameResult {
       | Range it ↦ NoneReads ⟦<PrepareRenamePlaceholder as FromJson>⟧.reads json × NoneReads ⟦<PrepareRenameDefaultBehavior as FromJson>⟧.reads json × ⟦<Range as FromJson>⟧.reads json it
     ] };
 
-    fn from_json(alloc: Global, value: &Value) -> Result<PrepareRenameResult, Misfit> {
+    fn from_json(alloc: Global, value: &JsonRef<'_>) -> Result<PrepareRenameResult, Misfit> {
         if let Some(it) = fitting(alloc, value)? {
             return Ok(PrepareRenameResult::Placeholder(it));
         }
@@ -1035,7 +1039,7 @@ impl FromJson for FormattingOptions {
         and Optional ⟦<bool as FromJson>⟧.reads (codes "insertFinalNewline") json it.insert_final_newline
         and Optional ⟦<bool as FromJson>⟧.reads (codes "trimFinalNewlines") json it.trim_final_newlines };
 
-    fn from_json(alloc: Global, value: &Value) -> Result<FormattingOptions, Misfit> {
+    fn from_json(alloc: Global, value: &JsonRef<'_>) -> Result<FormattingOptions, Misfit> {
         match Members::new(alloc, value)
             .required("tabSize")
             .required("insertSpaces")
@@ -1096,7 +1100,7 @@ impl FromJson for DocumentFormattingParams {
         and Required ⟦<FormattingOptions as FromJson>⟧.reads (codes "options") json it.options
         and IfFits ⟦<ProgressToken as FromJson>⟧.reads (codes "workDoneToken") json it.work_done_token };
 
-    fn from_json(alloc: Global, value: &Value) -> Result<DocumentFormattingParams, Misfit> {
+    fn from_json(alloc: Global, value: &JsonRef<'_>) -> Result<DocumentFormattingParams, Misfit> {
         match Members::new(alloc, value)
             .required("textDocument")
             .required("options")
@@ -1154,7 +1158,10 @@ impl FromJson for DocumentRangeFormattingParams {
         and Required ⟦<FormattingOptions as FromJson>⟧.reads (codes "options") json it.options
         and IfFits ⟦<ProgressToken as FromJson>⟧.reads (codes "workDoneToken") json it.work_done_token };
 
-    fn from_json(alloc: Global, value: &Value) -> Result<DocumentRangeFormattingParams, Misfit> {
+    fn from_json(
+        alloc: Global,
+        value: &JsonRef<'_>,
+    ) -> Result<DocumentRangeFormattingParams, Misfit> {
         match Members::new(alloc, value)
             .required("textDocument")
             .required("range")
@@ -1214,7 +1221,10 @@ impl FromJson for DocumentOnTypeFormattingParams {
         and Required ⟦<String as FromJson>⟧.reads (codes "ch") json it.ch
         and Required ⟦<FormattingOptions as FromJson>⟧.reads (codes "options") json it.options };
 
-    fn from_json(alloc: Global, value: &Value) -> Result<DocumentOnTypeFormattingParams, Misfit> {
+    fn from_json(
+        alloc: Global,
+        value: &JsonRef<'_>,
+    ) -> Result<DocumentOnTypeFormattingParams, Misfit> {
         match Members::new(alloc, value)
             .required("textDocument")
             .required("position")

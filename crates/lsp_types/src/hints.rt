@@ -11,6 +11,7 @@ use crate::edits::TextEdit;
 use crate::hovers::Documentation;
 use crate::json::{FromJson, Members, Misfit, Object, ToJson, fitting, number_within};
 use crate::workspace::Command;
+use lsp_json::JsonRef;
 use lsp_text::Position;
 use serde_json::Value;
 use std::alloc::{AllocError, Global};
@@ -37,7 +38,7 @@ impl ToJson for InlayHintKind {
 impl FromJson for InlayHintKind {
     ghost reads = { λ json it. IsWithin 1 2 json it.0 };
 
-    fn from_json(alloc: Global, value: &Value) -> Result<InlayHintKind, Misfit> {
+    fn from_json(alloc: Global, value: &JsonRef<'_>) -> Result<InlayHintKind, Misfit> {
         match number_within(alloc, value, 1, 2) {
             Ok(number) => Ok(InlayHintKind(number)),
             Err(misfit) => Err(misfit),
@@ -103,7 +104,7 @@ impl FromJson for InlayHintLabelPart {
         and Optional ⟦<Location as FromJson>⟧.reads (codes "location") json it.location
         and Optional ⟦<Command as FromJson>⟧.reads (codes "command") json it.command };
 
-    fn from_json(alloc: Global, value: &Value) -> Result<InlayHintLabelPart, Misfit> {
+    fn from_json(alloc: Global, value: &JsonRef<'_>) -> Result<InlayHintLabelPart, Misfit> {
         match Members::new(alloc, value)
             .required("value")
             .optional("tooltip")
@@ -158,7 +159,7 @@ impl FromJson for InlayHintLabel {
       | Parts it ↦ NoneReads ⟦<String as FromJson>⟧.reads json × ⟦<Vec<InlayHintLabelPart> as FromJson>⟧.reads json it
     ] };
 
-    fn from_json(alloc: Global, value: &Value) -> Result<InlayHintLabel, Misfit> {
+    fn from_json(alloc: Global, value: &JsonRef<'_>) -> Result<InlayHintLabel, Misfit> {
         if let Some(it) = fitting(alloc, value)? {
             return Ok(InlayHintLabel::Text(it));
         }
@@ -264,7 +265,7 @@ impl FromJson for InlayHint {
         and Optional ⟦<Value as FromJson>⟧.reads (codes "data") json it.«data»
         and Beside (codes "position" ∷ codes "label" ∷ codes "kind" ∷ codes "textEdits" ∷ codes "tooltip" ∷ codes "paddingLeft" ∷ codes "paddingRight" ∷ codes "data" ∷ []) json it.more };
 
-    fn from_json(alloc: Global, value: &Value) -> Result<InlayHint, Misfit> {
+    fn from_json(alloc: Global, value: &JsonRef<'_>) -> Result<InlayHint, Misfit> {
         match Members::new(alloc, value)
             .required("position")
             .required("label")

@@ -6,6 +6,7 @@ ghost use Rattle.lsp_types.specs.Reads.{IsObject, NoneReads, Optional, Required,
 
 use crate::choices::MarkupKind;
 use crate::json::{FromJson, Members, Misfit, Object, ToJson, fitting};
+use lsp_json::JsonRef;
 use lsp_text::Range;
 use serde_json::Value;
 use std::alloc::{AllocError, Global};
@@ -37,7 +38,7 @@ impl FromJson for MarkupContent {
         and Required ⟦<MarkupKind as FromJson>⟧.reads (codes "kind") json it.kind
         and Required ⟦<String as FromJson>⟧.reads (codes "value") json it.value };
 
-    fn from_json(alloc: Global, value: &Value) -> Result<MarkupContent, Misfit> {
+    fn from_json(alloc: Global, value: &JsonRef<'_>) -> Result<MarkupContent, Misfit> {
         match Members::new(alloc, value)
             .required("kind")
             .required("value")
@@ -85,7 +86,7 @@ impl FromJson for Documentation {
       | Markup it ↦ NoneReads ⟦<String as FromJson>⟧.reads json × ⟦<MarkupContent as FromJson>⟧.reads json it
     ] };
 
-    fn from_json(alloc: Global, value: &Value) -> Result<Documentation, Misfit> {
+    fn from_json(alloc: Global, value: &JsonRef<'_>) -> Result<Documentation, Misfit> {
         if let Some(it) = fitting(alloc, value)? {
             return Ok(Documentation::Text(it));
         }
@@ -123,7 +124,7 @@ impl FromJson for LanguageString {
         and Required ⟦<String as FromJson>⟧.reads (codes "language") json it.language
         and Required ⟦<String as FromJson>⟧.reads (codes "value") json it.value };
 
-    fn from_json(alloc: Global, value: &Value) -> Result<LanguageString, Misfit> {
+    fn from_json(alloc: Global, value: &JsonRef<'_>) -> Result<LanguageString, Misfit> {
         match Members::new(alloc, value)
             .required("language")
             .required("value")
@@ -171,7 +172,7 @@ impl FromJson for MarkedString {
       | Code it ↦ NoneReads ⟦<String as FromJson>⟧.reads json × ⟦<LanguageString as FromJson>⟧.reads json it
     ] };
 
-    fn from_json(alloc: Global, value: &Value) -> Result<MarkedString, Misfit> {
+    fn from_json(alloc: Global, value: &JsonRef<'_>) -> Result<MarkedString, Misfit> {
         if let Some(it) = fitting(alloc, value)? {
             return Ok(MarkedString::Text(it));
         }
@@ -221,7 +222,7 @@ impl FromJson for HoverContents {
       | Markup it ↦ NoneReads ⟦<MarkedString as FromJson>⟧.reads json × NoneReads ⟦<Vec<MarkedString> as FromJson>⟧.reads json × ⟦<MarkupContent as FromJson>⟧.reads json it
     ] };
 
-    fn from_json(alloc: Global, value: &Value) -> Result<HoverContents, Misfit> {
+    fn from_json(alloc: Global, value: &JsonRef<'_>) -> Result<HoverContents, Misfit> {
         if let Some(it) = fitting(alloc, value)? {
             return Ok(HoverContents::Marked(it));
         }
@@ -262,7 +263,7 @@ impl FromJson for Hover {
         and Required ⟦<HoverContents as FromJson>⟧.reads (codes "contents") json it.contents
         and Optional ⟦<Range as FromJson>⟧.reads (codes "range") json it.range };
 
-    fn from_json(alloc: Global, value: &Value) -> Result<Hover, Misfit> {
+    fn from_json(alloc: Global, value: &JsonRef<'_>) -> Result<Hover, Misfit> {
         match Members::new(alloc, value)
             .required("contents")
             .optional("range")

@@ -13,5 +13,5 @@ mod values;
 mod writing;
 
 pub use members::Members;
-pub use reading::{FromJson, Misfit, fitting, number_within, optional, required};
+pub use reading::{FromJson, Misfit, fitting, number_within, optional, present, required};
 pub use writing::{Object, ToJson};

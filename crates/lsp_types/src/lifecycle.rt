@@ -9,6 +9,7 @@ use crate::choices::NumberOrString;
 use crate::json::{FromJson, Members, Misfit, Object, ToJson};
 use crate::progress::ProgressToken;
 use crate::workspace::WorkspaceFolder;
+use lsp_json::JsonRef;
 use serde_json::Value;
 use std::alloc::{AllocError, Global};
 
@@ -79,7 +80,7 @@ impl FromJson for InitializeParams {
         and IfFits ⟦<String as FromJson>⟧.reads (codes "trace") json it.trace
         and IfFits ⟦<ProgressToken as FromJson>⟧.reads (codes "workDoneToken") json it.work_done_token };
 
-    fn from_json(alloc: Global, value: &Value) -> Result<InitializeParams, Misfit> {
+    fn from_json(alloc: Global, value: &JsonRef<'_>) -> Result<InitializeParams, Misfit> {
         match Members::new(alloc, value)
             .if_fits("processId")
             .if_fits("clientInfo")
@@ -166,7 +167,7 @@ impl FromJson for ServerInfo {
         and Required ⟦<String as FromJson>⟧.reads (codes "name") json it.name
         and Optional ⟦<String as FromJson>⟧.reads (codes "version") json it.version };
 
-    fn from_json(alloc: Global, value: &Value) -> Result<ServerInfo, Misfit> {
+    fn from_json(alloc: Global, value: &JsonRef<'_>) -> Result<ServerInfo, Misfit> {
         match Members::new(alloc, value)
             .required("name")
             .optional("version")
@@ -211,7 +212,7 @@ impl FromJson for InitializeResult {
         and Required ⟦<ServerCapabilities as FromJson>⟧.reads (codes "capabilities") json it.capabilities
         and Optional ⟦<ServerInfo as FromJson>⟧.reads (codes "serverInfo") json it.server_info };
 
-    fn from_json(alloc: Global, value: &Value) -> Result<InitializeResult, Misfit> {
+    fn from_json(alloc: Global, value: &JsonRef<'_>) -> Result<InitializeResult, Misfit> {
         match Members::new(alloc, value)
             .required("capabilities")
             .optional("serverInfo")
@@ -249,7 +250,7 @@ impl FromJson for SetTraceParams {
     ghost reads = { λ json it. IsObject json
         and Required ⟦<String as FromJson>⟧.reads (codes "value") json it.value };
 
-    fn from_json(alloc: Global, value: &Value) -> Result<SetTraceParams, Misfit> {
+    fn from_json(alloc: Global, value: &JsonRef<'_>) -> Result<SetTraceParams, Misfit> {
         match Members::new(alloc, value).required("value").end() {
             Ok(read) => {
                 let ((), value) = read;
@@ -304,7 +305,7 @@ impl FromJson for LogTraceParams {
         and Required ⟦<String as FromJson>⟧.reads (codes "message") json it.message
         and Optional ⟦<String as FromJson>⟧.reads (codes "verbose") json it.verbose };
 
-    fn from_json(alloc: Global, value: &Value) -> Result<LogTraceParams, Misfit> {
+    fn from_json(alloc: Global, value: &JsonRef<'_>) -> Result<LogTraceParams, Misfit> {
         match Members::new(alloc, value)
             .required("message")
             .optional("verbose")
@@ -339,7 +340,7 @@ impl FromJson for CancelParams {
     ghost reads = { λ json it. IsObject json
         and Required ⟦<NumberOrString as FromJson>⟧.reads (codes "id") json it.id };
 
-    fn from_json(alloc: Global, value: &Value) -> Result<CancelParams, Misfit> {
+    fn from_json(alloc: Global, value: &JsonRef<'_>) -> Result<CancelParams, Misfit> {
         match Members::new(alloc, value).required("id").end() {
             Ok(read) => {
                 let ((), id) = read;
@@ -401,7 +402,7 @@ impl FromJson for Registration {
         and Required ⟦<String as FromJson>⟧.reads (codes "method") json it.method
         and Optional ⟦<Value as FromJson>⟧.reads (codes "registerOptions") json it.register_options };
 
-    fn from_json(alloc: Global, value: &Value) -> Result<Registration, Misfit> {
+    fn from_json(alloc: Global, value: &JsonRef<'_>) -> Result<Registration, Misfit> {
         match Members::new(alloc, value)
             .required("id")
             .required("method")
@@ -443,7 +444,7 @@ impl FromJson for RegistrationParams {
     ghost reads = { λ json it. IsObject json
         and Required ⟦<Vec<Registration> as FromJson>⟧.reads (codes "registrations") json it.registrations };
 
-    fn from_json(alloc: Global, value: &Value) -> Result<RegistrationParams, Misfit> {
+    fn from_json(alloc: Global, value: &JsonRef<'_>) -> Result<RegistrationParams, Misfit> {
         match Members::new(alloc, value).required("registrations").end() {
             Ok(read) => {
                 let ((), registrations) = read;
@@ -481,7 +482,7 @@ impl FromJson for Unregistration {
         and Required ⟦<String as FromJson>⟧.reads (codes "id") json it.id
         and Required ⟦<String as FromJson>⟧.reads (codes "method") json it.method };
 
-    fn from_json(alloc: Global, value: &Value) -> Result<Unregistration, Misfit> {
+    fn from_json(alloc: Global, value: &JsonRef<'_>) -> Result<Unregistration, Misfit> {
         match Members::new(alloc, value)
             .required("id")
             .required("method")
@@ -518,7 +519,7 @@ impl FromJson for UnregistrationParams {
     ghost reads = { λ json it. IsObject json
         and Required ⟦<Vec<Unregistration> as FromJson>⟧.reads (codes "unregisterations") json it.unregisterations };
 
-    fn from_json(alloc: Global, value: &Value) -> Result<UnregistrationParams, Misfit> {
+    fn from_json(alloc: Global, value: &JsonRef<'_>) -> Result<UnregistrationParams, Misfit> {
         match Members::new(alloc, value)
             .required("unregisterations")
             .end()

@@ -1,13 +1,15 @@
 // How symbols are read and written that have others in them.
-ghost use Rattle.std.specs.Prelude.{◌≡◌, IfOk, codes, option_map};
+ghost use Rattle.std.specs.Prelude.{◌≡◌, IfOk, codes};
 ghost use Rattle.serde_json.specs.Find.{get};
-ghost use Rattle.serde_json.specs.View.{items_view, view};
-ghost use Rattle.lsp_types.specs.Reads.{ReadsAs, but_null};
+ghost use Rattle.serde_json.specs.View.{view};
+ghost use Rattle.lsp_json.specs.JsonRef.{json_data};
+ghost use Rattle.lsp_types.specs.Reads.{EachItem, InSome, ReadsAs, but_null};
 ghost use Rattle.lsp_types.specs.Symbols.{IsSymbolWithin, items_or_none};
 ghost use Rattle.lsp_types.specs.Written.{document_symbol};
 
-use crate::json::{FromJson, Members, Misfit, Object, ToJson};
+use crate::json::{FromJson, Members, Misfit, Object, ToJson, present};
 use crate::symbols::DocumentSymbol;
+use lsp_json::JsonRef;
 use serde_json::Value;
 use std::alloc::{AllocError, Global};
 
@@ -42,29 +44,20 @@ fn symbol_to_json(alloc: Global, symbol: &DocumentSymbol) -> Result<Value, Alloc
 impl FromJson for DocumentSymbol {
     ghost reads = { IsSymbolWithin 128 };
 
-    fn from_json(alloc: Global, value: &Value) -> Result<DocumentSymbol, Misfit> {
+    fn from_json(alloc: Global, value: &JsonRef<'_>) -> Result<DocumentSymbol, Misfit> {
         symbol_within(alloc, value, 128)
     }
 }
 
 /// Reads a symbol, with those inside it up to this many levels.
-#[tactic(auto, using(crate::proofs::SymbolLemmas::child_at))]
-fn symbol_within(alloc: Global, value: &Value, levels: u32) -> Result<DocumentSymbol, Misfit>
-    ensures { ReadsAs (IsSymbolWithin levels (view value.now)) result }
+#[cycle(symbols_within)]
+fn symbol_within(alloc: Global, value: &JsonRef<'_>, levels: u32) -> Result<DocumentSymbol, Misfit>
+    ensures { ReadsAs (IsSymbolWithin levels (json_data value.now)) result }
 {
     if levels == 0 {
         return Err(Misfit::Wanted("symbols that nest less deep"));
     }
-    let Some(items) = items_at(value, "children") else {
-        return Err(Misfit::WantedAt("children", "a list"));
-    };
-    let mut children = Vec::new(alloc);
-    for item in items {
-        let child = symbol_within(alloc, item, levels - 1)?;
-        if children.push(child).is_err() {
-            return Err(Misfit::Memory);
-        }
-    }
+    let children = children_within(alloc, value, levels - 1)?;
     match Members::new(alloc, value)
         .required("name")
         .optional("detail")
@@ -96,16 +89,28 @@ fn symbol_within(alloc: Global, value: &Value, levels: u32) -> Result<DocumentSy
     }
 }
 
-/// Returns the items of a list. A list that is missing or null has none. `None` means that the member is no list.
-fn items_at<'v>(value: &'v Value, key: &'static str) -> Option<&'v [Value]>
-    ensures { option_map (λ items. items_view items.now) result
-        ≡ items_or_none (but_null (get key.now (view value.now))) }
+/// Reads the symbols inside one, with those inside them up to this many levels.
+#[cycle(symbols_within)]
+fn children_within(
+    alloc: Global,
+    value: &JsonRef<'_>,
+    levels: u32,
+) -> Result<Vec<DocumentSymbol>, Misfit>
+    ensures { ReadsAs (λ children. InSome (λ items. EachItem (IsSymbolWithin levels) items children.items)
+        (items_or_none (but_null (get (codes "children") (json_data value.now))))) result }
 {
-    match value.get(key) {
-        None | Some(Value::Null) => Some(&[]),
-        Some(member) => match member.as_array() {
-            Some(items) => Some(items.as_slice()),
-            None => None,
-        },
+    let mut children = Vec::new(alloc);
+    let Some(member) = present(value, "children") else {
+        return Ok(children);
+    };
+    let Some(mut items) = member.items() else {
+        return Err(Misfit::WantedAt("children", "a list"));
+    };
+    while let Some(item) = items.next() {
+        let child = symbol_within(alloc, &item, levels)?;
+        if children.push(child).is_err() {
+            return Err(Misfit::Memory);
+        }
     }
+    Ok(children)
 }

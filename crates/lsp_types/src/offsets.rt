@@ -1,10 +1,12 @@
 // Two numbers that JSON has in a list.
-ghost use Rattle.std.specs.Prelude.{◌∷◌, []};
-ghost use Rattle.serde_json.specs.Data.{array, item, no_items, number, unsigned};
+ghost use Rattle.std.specs.Prelude.{◌∷◌, [], ◌≡◌, ◌≢◌, MatchOption, Some};
+ghost use Rattle.serde_json.specs.Data.{Data, array, item, no_items, number, unsigned};
 ghost use Rattle.serde_json.specs.Find.{as_array};
+ghost use Rattle.lsp_json.specs.JsonRef.{json_data};
 ghost use Rattle.lsp_types.specs.Reads.{EachItem, InSome, IsWhole};
 
 use crate::json::{FromJson, Misfit, ToJson};
+use lsp_json::JsonRef;
 use serde_json::Value;
 use std::alloc::{AllocError, Global};
 
@@ -21,17 +23,29 @@ pub struct LabelOffsets {
 impl FromJson for LabelOffsets {
     ghost reads = { λ json it. InSome (λ items. EachItem IsWhole items (it.start ∷ it.end ∷ [])) (as_array json) };
 
-    fn from_json(alloc: Global, value: &Value) -> Result<LabelOffsets, Misfit> {
-        let Some(numbers) = value.as_array() else {
-            return Err(Misfit::Wanted("a list of two numbers"));
-        };
-        match numbers.as_slice() {
-            [start, end] => Ok(LabelOffsets {
-                start: u32::from_json(alloc, start)?,
-                end: u32::from_json(alloc, end)?,
+    fn from_json(alloc: Global, value: &JsonRef<'_>) -> Result<LabelOffsets, Misfit> {
+        match two_items(value) {
+            Some((start, end)) => Ok(LabelOffsets {
+                start: u32::from_json(alloc, &start)?,
+                end: u32::from_json(alloc, &end)?,
             }),
-            _ => Err(Misfit::Wanted("a list of two numbers")),
+            None => Err(Misfit::Wanted("a list of two numbers")),
         }
+    }
+}
+
+/// Returns the items of a list of two, or `None` if this is no such list.
+fn two_items<'v>(value: &JsonRef<'v>) -> Option<(JsonRef<'v>, JsonRef<'v>)>
+    ensures { MatchOption result
+        ((one other : Data) → as_array (json_data value.now) ≢ Some (item one (item other no_items)))
+        (λ two. as_array (json_data value.now) ≡ Some (item (json_data two.0) (item (json_data two.1) no_items))) }
+{
+    let mut items = value.items()?;
+    let start = items.next()?;
+    let end = items.next()?;
+    match items.next() {
+        Some(_) => None,
+        None => Some((start, end)),
     }
 }
 

@@ -7,6 +7,7 @@ ghost use Rattle.lsp_types.specs.Reads.{IsObject, Named, Optional, Required, ◌
 
 use crate::choices::NumberOrString;
 use crate::json::{FromJson, Members, Misfit, Object, ToJson};
+use lsp_json::JsonRef;
 use serde_json::Value;
 use std::alloc::{AllocError, Global};
 
@@ -36,7 +37,7 @@ impl FromJson for WorkDoneProgressParams {
     ghost reads = { λ json it. IsObject json
         and Optional ⟦<ProgressToken as FromJson>⟧.reads (codes "workDoneToken") json it.work_done_token };
 
-    fn from_json(alloc: Global, value: &Value) -> Result<WorkDoneProgressParams, Misfit> {
+    fn from_json(alloc: Global, value: &JsonRef<'_>) -> Result<WorkDoneProgressParams, Misfit> {
         match Members::new(alloc, value).optional("workDoneToken").end() {
             Ok(read) => {
                 let ((), work_done_token) = read;
@@ -67,7 +68,10 @@ impl FromJson for WorkDoneProgressCreateParams {
     ghost reads = { λ json it. IsObject json
         and Required ⟦<ProgressToken as FromJson>⟧.reads (codes "token") json it.token };
 
-    fn from_json(alloc: Global, value: &Value) -> Result<WorkDoneProgressCreateParams, Misfit> {
+    fn from_json(
+        alloc: Global,
+        value: &JsonRef<'_>,
+    ) -> Result<WorkDoneProgressCreateParams, Misfit> {
         match Members::new(alloc, value).required("token").end() {
             Ok(read) => {
                 let ((), token) = read;
@@ -109,7 +113,7 @@ impl<T: FromJson> FromJson for ProgressParams<T> {
         and Required ⟦<ProgressToken as FromJson>⟧.reads (codes "token") json it.token
         and Required T.reads (codes "value") json it.value };
 
-    fn from_json(alloc: Global, value: &Value) -> Result<ProgressParams<T>, Misfit> {
+    fn from_json(alloc: Global, value: &JsonRef<'_>) -> Result<ProgressParams<T>, Misfit> {
         match Members::new(alloc, value)
             .required("token")
             .required("value")
@@ -185,7 +189,7 @@ impl FromJson for WorkDoneProgressBegin {
         and Optional ⟦<String as FromJson>⟧.reads (codes "message") json it.message
         and Optional ⟦<u32 as FromJson>⟧.reads (codes "percentage") json it.percentage };
 
-    fn from_json(alloc: Global, value: &Value) -> Result<WorkDoneProgressBegin, Misfit> {
+    fn from_json(alloc: Global, value: &JsonRef<'_>) -> Result<WorkDoneProgressBegin, Misfit> {
         match Members::new(alloc, value)
             .named("kind", "begin")
             .required("title")
@@ -262,7 +266,7 @@ impl FromJson for WorkDoneProgressReport {
         and Optional ⟦<String as FromJson>⟧.reads (codes "message") json it.message
         and Optional ⟦<u32 as FromJson>⟧.reads (codes "percentage") json it.percentage };
 
-    fn from_json(alloc: Global, value: &Value) -> Result<WorkDoneProgressReport, Misfit> {
+    fn from_json(alloc: Global, value: &JsonRef<'_>) -> Result<WorkDoneProgressReport, Misfit> {
         match Members::new(alloc, value)
             .named("kind", "report")
             .optional("cancellable")
@@ -321,7 +325,7 @@ impl FromJson for WorkDoneProgressEnd {
         and Named (codes "kind") (codes "end") json
         and Optional ⟦<String as FromJson>⟧.reads (codes "message") json it.message };
 
-    fn from_json(alloc: Global, value: &Value) -> Result<WorkDoneProgressEnd, Misfit> {
+    fn from_json(alloc: Global, value: &JsonRef<'_>) -> Result<WorkDoneProgressEnd, Misfit> {
         match Members::new(alloc, value)
             .named("kind", "end")
             .optional("message")

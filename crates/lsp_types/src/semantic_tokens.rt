@@ -5,6 +5,7 @@ ghost use Rattle.lsp_types.specs.Json.{object_of};
 ghost use Rattle.lsp_types.specs.Reads.{IsObject, Optional, Required, ◌and◌};
 
 use crate::json::{FromJson, Members, Misfit, Object, ToJson};
+use lsp_json::JsonRef;
 use serde_json::Value;
 use std::alloc::{AllocError, Global};
 
@@ -35,7 +36,7 @@ impl FromJson for SemanticTokens {
         and Optional ⟦<String as FromJson>⟧.reads (codes "resultId") json it.result_id
         and Required ⟦<Vec<u32> as FromJson>⟧.reads (codes "data") json it.«data» };
 
-    fn from_json(alloc: Global, value: &Value) -> Result<SemanticTokens, Misfit> {
+    fn from_json(alloc: Global, value: &JsonRef<'_>) -> Result<SemanticTokens, Misfit> {
         match Members::new(alloc, value)
             .optional("resultId")
             .required("data")

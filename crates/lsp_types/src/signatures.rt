@@ -10,6 +10,7 @@ use crate::hovers::Documentation;
 use crate::json::{FromJson, Members, Misfit, Object, ToJson, fitting, number_within};
 use crate::offsets::LabelOffsets;
 use crate::progress::ProgressToken;
+use lsp_json::JsonRef;
 use lsp_text::Position;
 use serde_json::Value;
 use std::alloc::{AllocError, Global};
@@ -65,7 +66,7 @@ impl FromJson for SignatureHelp {
         and Optional ⟦<u32 as FromJson>⟧.reads (codes "activeSignature") json it.active_signature
         and Optional ⟦<u32 as FromJson>⟧.reads (codes "activeParameter") json it.active_parameter };
 
-    fn from_json(alloc: Global, value: &Value) -> Result<SignatureHelp, Misfit> {
+    fn from_json(alloc: Global, value: &JsonRef<'_>) -> Result<SignatureHelp, Misfit> {
         match Members::new(alloc, value)
             .required("signatures")
             .optional("activeSignature")
@@ -143,7 +144,7 @@ impl FromJson for SignatureInformation {
         and Optional ⟦<Vec<ParameterInformation> as FromJson>⟧.reads (codes "parameters") json it.parameters
         and Optional ⟦<u32 as FromJson>⟧.reads (codes "activeParameter") json it.active_parameter };
 
-    fn from_json(alloc: Global, value: &Value) -> Result<SignatureInformation, Misfit> {
+    fn from_json(alloc: Global, value: &JsonRef<'_>) -> Result<SignatureInformation, Misfit> {
         match Members::new(alloc, value)
             .required("label")
             .optional("documentation")
@@ -198,7 +199,7 @@ impl FromJson for ParameterLabel {
       | Offsets it ↦ NoneReads ⟦<String as FromJson>⟧.reads json × ⟦<LabelOffsets as FromJson>⟧.reads json it
     ] };
 
-    fn from_json(alloc: Global, value: &Value) -> Result<ParameterLabel, Misfit> {
+    fn from_json(alloc: Global, value: &JsonRef<'_>) -> Result<ParameterLabel, Misfit> {
         if let Some(it) = fitting(alloc, value)? {
             return Ok(ParameterLabel::Text(it));
         }
@@ -254,7 +255,7 @@ impl FromJson for ParameterInformation {
         and Required ⟦<ParameterLabel as FromJson>⟧.reads (codes "label") json it.label
         and Optional ⟦<Documentation as FromJson>⟧.reads (codes "documentation") json it.documentation };
 
-    fn from_json(alloc: Global, value: &Value) -> Result<ParameterInformation, Misfit> {
+    fn from_json(alloc: Global, value: &JsonRef<'_>) -> Result<ParameterInformation, Misfit> {
         match Members::new(alloc, value)
             .required("label")
             .optional("documentation")
@@ -296,7 +297,7 @@ impl ToJson for SignatureHelpTriggerKind {
 impl FromJson for SignatureHelpTriggerKind {
     ghost reads = { λ json it. IsWithin 1 3 json it.0 };
 
-    fn from_json(alloc: Global, value: &Value) -> Result<SignatureHelpTriggerKind, Misfit> {
+    fn from_json(alloc: Global, value: &JsonRef<'_>) -> Result<SignatureHelpTriggerKind, Misfit> {
         match number_within(alloc, value, 1, 3) {
             Ok(number) => Ok(SignatureHelpTriggerKind(number)),
             Err(misfit) => Err(misfit),
@@ -341,7 +342,7 @@ impl FromJson for SignatureHelpContext {
         and Required ⟦<bool as FromJson>⟧.reads (codes "isRetrigger") json it.is_retrigger
         and Optional ⟦<SignatureHelp as FromJson>⟧.reads (codes "activeSignatureHelp") json it.active_signature_help };
 
-    fn from_json(alloc: Global, value: &Value) -> Result<SignatureHelpContext, Misfit> {
+    fn from_json(alloc: Global, value: &JsonRef<'_>) -> Result<SignatureHelpContext, Misfit> {
         match Members::new(alloc, value)
             .required("triggerKind")
             .optional("triggerCharacter")
@@ -403,7 +404,7 @@ impl FromJson for SignatureHelpParams {
         and IfFits ⟦<SignatureHelpContext as FromJson>⟧.reads (codes "context") json it.context
         and IfFits ⟦<ProgressToken as FromJson>⟧.reads (codes "workDoneToken") json it.work_done_token };
 
-    fn from_json(alloc: Global, value: &Value) -> Result<SignatureHelpParams, Misfit> {
+    fn from_json(alloc: Global, value: &JsonRef<'_>) -> Result<SignatureHelpParams, Misfit> {
         match Members::new(alloc, value)
             .required("textDocument")
             .required("position")

@@ -9,6 +9,7 @@ ghost use Rattle.lsp_types.specs.Reads.{Beside, IfFits, IsObject, IsWithin, None
 use crate::documents::{Location, TextDocumentIdentifier};
 use crate::json::{FromJson, Members, Misfit, Object, ToJson, fitting, number_within};
 use crate::progress::ProgressToken;
+use lsp_json::JsonRef;
 use lsp_text::Range;
 use serde_json::Value;
 use std::alloc::{AllocError, Global};
@@ -83,7 +84,7 @@ impl ToJson for SymbolKind {
 impl FromJson for SymbolKind {
     ghost reads = { λ json it. IsWithin 1 26 json it.0 };
 
-    fn from_json(alloc: Global, value: &Value) -> Result<SymbolKind, Misfit> {
+    fn from_json(alloc: Global, value: &JsonRef<'_>) -> Result<SymbolKind, Misfit> {
         match number_within(alloc, value, 1, 26) {
             Ok(number) => Ok(SymbolKind(number)),
             Err(misfit) => Err(misfit),
@@ -111,7 +112,7 @@ impl ToJson for SymbolTag {
 impl FromJson for SymbolTag {
     ghost reads = { λ json it. IsWithin 1 1 json it.0 };
 
-    fn from_json(alloc: Global, value: &Value) -> Result<SymbolTag, Misfit> {
+    fn from_json(alloc: Global, value: &JsonRef<'_>) -> Result<SymbolTag, Misfit> {
         match number_within(alloc, value, 1, 1) {
             Ok(number) => Ok(SymbolTag(number)),
             Err(misfit) => Err(misfit),
@@ -249,7 +250,7 @@ impl FromJson for SymbolInformation {
         and Required ⟦<Location as FromJson>⟧.reads (codes "location") json it.location
         and Optional ⟦<String as FromJson>⟧.reads (codes "containerName") json it.container_name };
 
-    fn from_json(alloc: Global, value: &Value) -> Result<SymbolInformation, Misfit> {
+    fn from_json(alloc: Global, value: &JsonRef<'_>) -> Result<SymbolInformation, Misfit> {
         match Members::new(alloc, value)
             .required("name")
             .required("kind")
@@ -309,7 +310,7 @@ impl FromJson for DocumentSymbolResult {
       | Information it ↦ NoneReads ⟦<Vec<DocumentSymbol> as FromJson>⟧.reads json × ⟦<Vec<SymbolInformation> as FromJson>⟧.reads json it
     ] };
 
-    fn from_json(alloc: Global, value: &Value) -> Result<DocumentSymbolResult, Misfit> {
+    fn from_json(alloc: Global, value: &JsonRef<'_>) -> Result<DocumentSymbolResult, Misfit> {
         if let Some(it) = fitting(alloc, value)? {
             return Ok(DocumentSymbolResult::Symbols(it));
         }
@@ -354,7 +355,7 @@ impl FromJson for WorkspaceSymbolParams {
         and IfFits ⟦<ProgressToken as FromJson>⟧.reads (codes "workDoneToken") json it.work_done_token
         and IfFits ⟦<ProgressToken as FromJson>⟧.reads (codes "partialResultToken") json it.partial_result_token };
 
-    fn from_json(alloc: Global, value: &Value) -> Result<WorkspaceSymbolParams, Misfit> {
+    fn from_json(alloc: Global, value: &JsonRef<'_>) -> Result<WorkspaceSymbolParams, Misfit> {
         match Members::new(alloc, value)
             .required("query")
             .if_fits("workDoneToken")
@@ -407,7 +408,7 @@ impl FromJson for WorkspaceSymbolLocation {
       | Document it ↦ NoneReads ⟦<Location as FromJson>⟧.reads json × ⟦<TextDocumentIdentifier as FromJson>⟧.reads json it
     ] };
 
-    fn from_json(alloc: Global, value: &Value) -> Result<WorkspaceSymbolLocation, Misfit> {
+    fn from_json(alloc: Global, value: &JsonRef<'_>) -> Result<WorkspaceSymbolLocation, Misfit> {
         if let Some(it) = fitting(alloc, value)? {
             return Ok(WorkspaceSymbolLocation::Place(it));
         }
@@ -508,7 +509,7 @@ impl FromJson for WorkspaceSymbol {
         and Optional ⟦<Value as FromJson>⟧.reads (codes "data") json it.«data»
         and Beside (codes "name" ∷ codes "kind" ∷ codes "tags" ∷ codes "deprecated" ∷ codes "containerName" ∷ codes "location" ∷ codes "data" ∷ []) json it.more };
 
-    fn from_json(alloc: Global, value: &Value) -> Result<WorkspaceSymbol, Misfit> {
+    fn from_json(alloc: Global, value: &JsonRef<'_>) -> Result<WorkspaceSymbol, Misfit> {
         match Members::new(alloc, value)
             .required("name")
             .required("kind")

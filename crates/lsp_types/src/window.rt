@@ -6,6 +6,7 @@ ghost use Rattle.lsp_types.specs.Json.{object_of};
 ghost use Rattle.lsp_types.specs.Reads.{IsObject, IsWithin, Optional, Required, ◌and◌};
 
 use crate::json::{FromJson, Members, Misfit, Object, ToJson, number_within};
+use lsp_json::JsonRef;
 use lsp_text::Range;
 use serde_json::Value;
 use std::alloc::{AllocError, Global};
@@ -36,7 +37,7 @@ impl ToJson for MessageType {
 impl FromJson for MessageType {
     ghost reads = { λ json it. IsWithin 1 4 json it.0 };
 
-    fn from_json(alloc: Global, value: &Value) -> Result<MessageType, Misfit> {
+    fn from_json(alloc: Global, value: &JsonRef<'_>) -> Result<MessageType, Misfit> {
         match number_within(alloc, value, 1, 4) {
             Ok(number) => Ok(MessageType(number)),
             Err(misfit) => Err(misfit),
@@ -71,7 +72,7 @@ impl FromJson for ShowMessageParams {
         and Required ⟦<MessageType as FromJson>⟧.reads (codes "type") json it.typ
         and Required ⟦<String as FromJson>⟧.reads (codes "message") json it.message };
 
-    fn from_json(alloc: Global, value: &Value) -> Result<ShowMessageParams, Misfit> {
+    fn from_json(alloc: Global, value: &JsonRef<'_>) -> Result<ShowMessageParams, Misfit> {
         match Members::new(alloc, value)
             .required("type")
             .required("message")
@@ -138,7 +139,7 @@ impl FromJson for ShowMessageRequestParams {
         and Required ⟦<String as FromJson>⟧.reads (codes "message") json it.message
         and Optional ⟦<Vec<MessageActionItem> as FromJson>⟧.reads (codes "actions") json it.actions };
 
-    fn from_json(alloc: Global, value: &Value) -> Result<ShowMessageRequestParams, Misfit> {
+    fn from_json(alloc: Global, value: &JsonRef<'_>) -> Result<ShowMessageRequestParams, Misfit> {
         match Members::new(alloc, value)
             .required("type")
             .required("message")
@@ -178,7 +179,7 @@ impl FromJson for MessageActionItem {
     ghost reads = { λ json it. IsObject json
         and Required ⟦<String as FromJson>⟧.reads (codes "title") json it.title };
 
-    fn from_json(alloc: Global, value: &Value) -> Result<MessageActionItem, Misfit> {
+    fn from_json(alloc: Global, value: &JsonRef<'_>) -> Result<MessageActionItem, Misfit> {
         match Members::new(alloc, value).required("title").end() {
             Ok(read) => {
                 let ((), title) = read;
@@ -247,7 +248,7 @@ impl FromJson for ShowDocumentParams {
         and Optional ⟦<bool as FromJson>⟧.reads (codes "takeFocus") json it.take_focus
         and Optional ⟦<Range as FromJson>⟧.reads (codes "selection") json it.selection };
 
-    fn from_json(alloc: Global, value: &Value) -> Result<ShowDocumentParams, Misfit> {
+    fn from_json(alloc: Global, value: &JsonRef<'_>) -> Result<ShowDocumentParams, Misfit> {
         match Members::new(alloc, value)
             .required("uri")
             .optional("external")
@@ -289,7 +290,7 @@ impl FromJson for ShowDocumentResult {
     ghost reads = { λ json it. IsObject json
         and Required ⟦<bool as FromJson>⟧.reads (codes "success") json it.success };
 
-    fn from_json(alloc: Global, value: &Value) -> Result<ShowDocumentResult, Misfit> {
+    fn from_json(alloc: Global, value: &JsonRef<'_>) -> Result<ShowDocumentResult, Misfit> {
         match Members::new(alloc, value).required("success").end() {
             Ok(read) => {
                 let ((), success) = read;

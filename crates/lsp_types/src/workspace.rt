@@ -8,6 +8,7 @@ ghost use Rattle.lsp_types.specs.Reads.{IfFits, IsObject, IsWithin, Optional, Re
 use crate::edits::WorkspaceEdit;
 use crate::json::{FromJson, Members, Misfit, Object, ToJson, number_within};
 use crate::progress::ProgressToken;
+use lsp_json::JsonRef;
 use serde_json::Value;
 use std::alloc::{AllocError, Global};
 
@@ -38,7 +39,7 @@ impl FromJson for WorkspaceFolder {
         and Required ⟦<String as FromJson>⟧.reads (codes "uri") json it.uri
         and IfFits ⟦<String as FromJson>⟧.reads (codes "name") json it.name };
 
-    fn from_json(alloc: Global, value: &Value) -> Result<WorkspaceFolder, Misfit> {
+    fn from_json(alloc: Global, value: &JsonRef<'_>) -> Result<WorkspaceFolder, Misfit> {
         match Members::new(alloc, value)
             .required("uri")
             .if_fits("name")
@@ -73,7 +74,10 @@ impl FromJson for DidChangeWorkspaceFoldersParams {
     ghost reads = { λ json it. IsObject json
         and Required ⟦<WorkspaceFoldersChangeEvent as FromJson>⟧.reads (codes "event") json it.event };
 
-    fn from_json(alloc: Global, value: &Value) -> Result<DidChangeWorkspaceFoldersParams, Misfit> {
+    fn from_json(
+        alloc: Global,
+        value: &JsonRef<'_>,
+    ) -> Result<DidChangeWorkspaceFoldersParams, Misfit> {
         match Members::new(alloc, value).required("event").end() {
             Ok(read) => {
                 let ((), event) = read;
@@ -111,7 +115,10 @@ impl FromJson for WorkspaceFoldersChangeEvent {
         and Required ⟦<Vec<WorkspaceFolder> as FromJson>⟧.reads (codes "added") json it.added
         and Required ⟦<Vec<WorkspaceFolder> as FromJson>⟧.reads (codes "removed") json it.removed };
 
-    fn from_json(alloc: Global, value: &Value) -> Result<WorkspaceFoldersChangeEvent, Misfit> {
+    fn from_json(
+        alloc: Global,
+        value: &JsonRef<'_>,
+    ) -> Result<WorkspaceFoldersChangeEvent, Misfit> {
         match Members::new(alloc, value)
             .required("added")
             .required("removed")
@@ -146,7 +153,10 @@ impl FromJson for DidChangeConfigurationParams {
     ghost reads = { λ json it. IsObject json
         and Required ⟦<Value as FromJson>⟧.reads (codes "settings") json it.settings };
 
-    fn from_json(alloc: Global, value: &Value) -> Result<DidChangeConfigurationParams, Misfit> {
+    fn from_json(
+        alloc: Global,
+        value: &JsonRef<'_>,
+    ) -> Result<DidChangeConfigurationParams, Misfit> {
         match Members::new(alloc, value).required("settings").end() {
             Ok(read) => {
                 let ((), settings) = read;
@@ -181,7 +191,7 @@ impl ToJson for FileChangeType {
 impl FromJson for FileChangeType {
     ghost reads = { λ json it. IsWithin 1 3 json it.0 };
 
-    fn from_json(alloc: Global, value: &Value) -> Result<FileChangeType, Misfit> {
+    fn from_json(alloc: Global, value: &JsonRef<'_>) -> Result<FileChangeType, Misfit> {
         match number_within(alloc, value, 1, 3) {
             Ok(number) => Ok(FileChangeType(number)),
             Err(misfit) => Err(misfit),
@@ -216,7 +226,7 @@ impl FromJson for FileEvent {
         and Required ⟦<String as FromJson>⟧.reads (codes "uri") json it.uri
         and Required ⟦<FileChangeType as FromJson>⟧.reads (codes "type") json it.typ };
 
-    fn from_json(alloc: Global, value: &Value) -> Result<FileEvent, Misfit> {
+    fn from_json(alloc: Global, value: &JsonRef<'_>) -> Result<FileEvent, Misfit> {
         match Members::new(alloc, value)
             .required("uri")
             .required("type")
@@ -251,7 +261,10 @@ impl FromJson for DidChangeWatchedFilesParams {
     ghost reads = { λ json it. IsObject json
         and Required ⟦<Vec<FileEvent> as FromJson>⟧.reads (codes "changes") json it.changes };
 
-    fn from_json(alloc: Global, value: &Value) -> Result<DidChangeWatchedFilesParams, Misfit> {
+    fn from_json(
+        alloc: Global,
+        value: &JsonRef<'_>,
+    ) -> Result<DidChangeWatchedFilesParams, Misfit> {
         match Members::new(alloc, value).required("changes").end() {
             Ok(read) => {
                 let ((), changes) = read;
@@ -283,7 +296,7 @@ impl FromJson for ConfigurationParams {
     ghost reads = { λ json it. IsObject json
         and Required ⟦<Vec<ConfigurationItem> as FromJson>⟧.reads (codes "items") json it.items };
 
-    fn from_json(alloc: Global, value: &Value) -> Result<ConfigurationParams, Misfit> {
+    fn from_json(alloc: Global, value: &JsonRef<'_>) -> Result<ConfigurationParams, Misfit> {
         match Members::new(alloc, value).required("items").end() {
             Ok(read) => {
                 let ((), items) = read;
@@ -338,7 +351,7 @@ impl FromJson for ConfigurationItem {
         and Optional ⟦<String as FromJson>⟧.reads (codes "scopeUri") json it.scope_uri
         and Optional ⟦<String as FromJson>⟧.reads (codes "section") json it.section };
 
-    fn from_json(alloc: Global, value: &Value) -> Result<ConfigurationItem, Misfit> {
+    fn from_json(alloc: Global, value: &JsonRef<'_>) -> Result<ConfigurationItem, Misfit> {
         match Members::new(alloc, value)
             .optional("scopeUri")
             .optional("section")
@@ -404,7 +417,7 @@ impl FromJson for Command {
         and Required ⟦<String as FromJson>⟧.reads (codes "command") json it.command
         and Optional ⟦<Vec<Value> as FromJson>⟧.reads (codes "arguments") json it.arguments };
 
-    fn from_json(alloc: Global, value: &Value) -> Result<Command, Misfit> {
+    fn from_json(alloc: Global, value: &JsonRef<'_>) -> Result<Command, Misfit> {
         match Members::new(alloc, value)
             .required("title")
             .required("command")
@@ -456,7 +469,7 @@ impl FromJson for ExecuteCommandParams {
         and Optional ⟦<Vec<Value> as FromJson>⟧.reads (codes "arguments") json it.arguments
         and IfFits ⟦<ProgressToken as FromJson>⟧.reads (codes "workDoneToken") json it.work_done_token };
 
-    fn from_json(alloc: Global, value: &Value) -> Result<ExecuteCommandParams, Misfit> {
+    fn from_json(alloc: Global, value: &JsonRef<'_>) -> Result<ExecuteCommandParams, Misfit> {
         match Members::new(alloc, value)
             .required("command")
             .optional("arguments")
@@ -517,7 +530,7 @@ impl FromJson for ApplyWorkspaceEditParams {
         and Optional ⟦<String as FromJson>⟧.reads (codes "label") json it.label
         and Required ⟦<WorkspaceEdit as FromJson>⟧.reads (codes "edit") json it.edit };
 
-    fn from_json(alloc: Global, value: &Value) -> Result<ApplyWorkspaceEditParams, Misfit> {
+    fn from_json(alloc: Global, value: &JsonRef<'_>) -> Result<ApplyWorkspaceEditParams, Misfit> {
         match Members::new(alloc, value)
             .optional("label")
             .required("edit")
@@ -564,7 +577,7 @@ impl FromJson for ApplyWorkspaceEditResult {
         and Optional ⟦<String as FromJson>⟧.reads (codes "failureReason") json it.failure_reason
         and Optional ⟦<u32 as FromJson>⟧.reads (codes "failedChange") json it.failed_change };
 
-    fn from_json(alloc: Global, value: &Value) -> Result<ApplyWorkspaceEditResult, Misfit> {
+    fn from_json(alloc: Global, value: &JsonRef<'_>) -> Result<ApplyWorkspaceEditResult, Misfit> {
         match Members::new(alloc, value)
             .required("applied")
             .optional("failureReason")

@@ -4,6 +4,7 @@ ghost use Rattle.std.specs.Prelude.{◌∷◌, [], Some, codes, option_map};
 ghost use Rattle.lsp_types.specs.Json.{object_of};
 ghost use Rattle.lsp_types.specs.Reads.{IfFits, IsObject, Optional, Required, ◌and◌};
 
+use lsp_json::JsonRef;
 use lsp_text::Range;
 use lsp_types::json::{FromJson, Members, Misfit, Object, ToJson};
 use lsp_types::{DocumentSymbolParams, ProgressToken, TextDocumentIdentifier, TextEdit};
@@ -51,7 +52,7 @@ impl FromJson for Color {
         and Required ⟦<f64 as FromJson>⟧.reads (codes "blue") json it.blue
         and Required ⟦<f64 as FromJson>⟧.reads (codes "alpha") json it.alpha };
 
-    fn from_json(alloc: Global, value: &Value) -> Result<Color, Misfit> {
+    fn from_json(alloc: Global, value: &JsonRef<'_>) -> Result<Color, Misfit> {
         match Members::new(alloc, value)
             .required("red")
             .required("green")
@@ -100,7 +101,7 @@ impl FromJson for ColorInformation {
         and Required ⟦<Range as FromJson>⟧.reads (codes "range") json it.range
         and Required ⟦<Color as FromJson>⟧.reads (codes "color") json it.color };
 
-    fn from_json(alloc: Global, value: &Value) -> Result<ColorInformation, Misfit> {
+    fn from_json(alloc: Global, value: &JsonRef<'_>) -> Result<ColorInformation, Misfit> {
         match Members::new(alloc, value)
             .required("range")
             .required("color")
@@ -159,7 +160,7 @@ impl FromJson for ColorPresentationParams {
         and IfFits ⟦<ProgressToken as FromJson>⟧.reads (codes "workDoneToken") json it.work_done_token
         and IfFits ⟦<ProgressToken as FromJson>⟧.reads (codes "partialResultToken") json it.partial_result_token };
 
-    fn from_json(alloc: Global, value: &Value) -> Result<ColorPresentationParams, Misfit> {
+    fn from_json(alloc: Global, value: &JsonRef<'_>) -> Result<ColorPresentationParams, Misfit> {
         match Members::new(alloc, value)
             .required("textDocument")
             .required("color")
@@ -238,7 +239,7 @@ impl FromJson for ColorPresentation {
         and Optional ⟦<TextEdit as FromJson>⟧.reads (codes "textEdit") json it.text_edit
         and Optional ⟦<Vec<TextEdit> as FromJson>⟧.reads (codes "additionalTextEdits") json it.additional_text_edits };
 
-    fn from_json(alloc: Global, value: &Value) -> Result<ColorPresentation, Misfit> {
+    fn from_json(alloc: Global, value: &JsonRef<'_>) -> Result<ColorPresentation, Misfit> {
         match Members::new(alloc, value)
             .required("label")
             .optional("textEdit")

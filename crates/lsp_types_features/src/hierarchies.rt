@@ -5,6 +5,7 @@ ghost use Rattle.serde_json.specs.View.{view};
 ghost use Rattle.lsp_types.specs.Json.{object_of, object_with};
 ghost use Rattle.lsp_types.specs.Reads.{Beside, IfFits, IsObject, Optional, Required, ◌and◌};
 
+use lsp_json::JsonRef;
 use lsp_text::Range;
 use lsp_types::json::{FromJson, Members, Misfit, Object, ToJson};
 use lsp_types::{HoverParams, ProgressToken, SymbolKind, SymbolTag};
@@ -115,7 +116,7 @@ impl FromJson for CallHierarchyItem {
         and Optional ⟦<Value as FromJson>⟧.reads (codes "data") json it.«data»
         and Beside (codes "name" ∷ codes "kind" ∷ codes "tags" ∷ codes "detail" ∷ codes "uri" ∷ codes "range" ∷ codes "selectionRange" ∷ codes "data" ∷ []) json it.more };
 
-    fn from_json(alloc: Global, value: &Value) -> Result<CallHierarchyItem, Misfit> {
+    fn from_json(alloc: Global, value: &JsonRef<'_>) -> Result<CallHierarchyItem, Misfit> {
         match Members::new(alloc, value)
             .required("name")
             .required("kind")
@@ -198,7 +199,10 @@ impl FromJson for CallHierarchyIncomingCallsParams {
         and IfFits ⟦<ProgressToken as FromJson>⟧.reads (codes "workDoneToken") json it.work_done_token
         and IfFits ⟦<ProgressToken as FromJson>⟧.reads (codes "partialResultToken") json it.partial_result_token };
 
-    fn from_json(alloc: Global, value: &Value) -> Result<CallHierarchyIncomingCallsParams, Misfit> {
+    fn from_json(
+        alloc: Global,
+        value: &JsonRef<'_>,
+    ) -> Result<CallHierarchyIncomingCallsParams, Misfit> {
         match Members::new(alloc, value)
             .required("item")
             .if_fits("workDoneToken")
@@ -245,7 +249,7 @@ impl FromJson for CallHierarchyIncomingCall {
         and Required ⟦<CallHierarchyItem as FromJson>⟧.reads (codes "from") json it.from
         and Required ⟦<Vec<Range> as FromJson>⟧.reads (codes "fromRanges") json it.from_ranges };
 
-    fn from_json(alloc: Global, value: &Value) -> Result<CallHierarchyIncomingCall, Misfit> {
+    fn from_json(alloc: Global, value: &JsonRef<'_>) -> Result<CallHierarchyIncomingCall, Misfit> {
         match Members::new(alloc, value)
             .required("from")
             .required("fromRanges")
@@ -291,7 +295,7 @@ impl FromJson for CallHierarchyOutgoingCall {
         and Required ⟦<CallHierarchyItem as FromJson>⟧.reads (codes "to") json it.to
         and Required ⟦<Vec<Range> as FromJson>⟧.reads (codes "fromRanges") json it.from_ranges };
 
-    fn from_json(alloc: Global, value: &Value) -> Result<CallHierarchyOutgoingCall, Misfit> {
+    fn from_json(alloc: Global, value: &JsonRef<'_>) -> Result<CallHierarchyOutgoingCall, Misfit> {
         match Members::new(alloc, value)
             .required("to")
             .required("fromRanges")

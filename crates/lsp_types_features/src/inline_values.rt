@@ -4,6 +4,7 @@ ghost use Rattle.std.specs.Prelude.{◌∷◌, [], Some, codes, option_map};
 ghost use Rattle.lsp_types.specs.Json.{object_of};
 ghost use Rattle.lsp_types.specs.Reads.{IfFits, IsObject, NoneReads, Optional, Required, ◌and◌};
 
+use lsp_json::JsonRef;
 use lsp_text::Range;
 use lsp_types::json::{FromJson, Members, Misfit, Object, ToJson, fitting};
 use lsp_types::{ProgressToken, TextDocumentIdentifier};
@@ -48,7 +49,7 @@ impl FromJson for InlineValueParams {
         and Required ⟦<InlineValueContext as FromJson>⟧.reads (codes "context") json it.context
         and IfFits ⟦<ProgressToken as FromJson>⟧.reads (codes "workDoneToken") json it.work_done_token };
 
-    fn from_json(alloc: Global, value: &Value) -> Result<InlineValueParams, Misfit> {
+    fn from_json(alloc: Global, value: &JsonRef<'_>) -> Result<InlineValueParams, Misfit> {
         match Members::new(alloc, value)
             .required("textDocument")
             .required("range")
@@ -97,7 +98,7 @@ impl FromJson for InlineValueContext {
         and Required ⟦<i32 as FromJson>⟧.reads (codes "frameId") json it.frame_id
         and Required ⟦<Range as FromJson>⟧.reads (codes "stoppedLocation") json it.stopped_location };
 
-    fn from_json(alloc: Global, value: &Value) -> Result<InlineValueContext, Misfit> {
+    fn from_json(alloc: Global, value: &JsonRef<'_>) -> Result<InlineValueContext, Misfit> {
         match Members::new(alloc, value)
             .required("frameId")
             .required("stoppedLocation")
@@ -142,7 +143,7 @@ impl FromJson for InlineValueText {
         and Required ⟦<Range as FromJson>⟧.reads (codes "range") json it.range
         and Required ⟦<String as FromJson>⟧.reads (codes "text") json it.text };
 
-    fn from_json(alloc: Global, value: &Value) -> Result<InlineValueText, Misfit> {
+    fn from_json(alloc: Global, value: &JsonRef<'_>) -> Result<InlineValueText, Misfit> {
         match Members::new(alloc, value)
             .required("range")
             .required("text")
@@ -208,7 +209,7 @@ impl FromJson for InlineValueVariableLookup {
         and Optional ⟦<String as FromJson>⟧.reads (codes "variableName") json it.variable_name
         and Required ⟦<bool as FromJson>⟧.reads (codes "caseSensitiveLookup") json it.case_sensitive_lookup };
 
-    fn from_json(alloc: Global, value: &Value) -> Result<InlineValueVariableLookup, Misfit> {
+    fn from_json(alloc: Global, value: &JsonRef<'_>) -> Result<InlineValueVariableLookup, Misfit> {
         match Members::new(alloc, value)
             .required("range")
             .optional("variableName")
@@ -272,7 +273,10 @@ impl FromJson for InlineValueEvaluatableExpression {
         and Required ⟦<Range as FromJson>⟧.reads (codes "range") json it.range
         and Optional ⟦<String as FromJson>⟧.reads (codes "expression") json it.expression };
 
-    fn from_json(alloc: Global, value: &Value) -> Result<InlineValueEvaluatableExpression, Misfit> {
+    fn from_json(
+        alloc: Global,
+        value: &JsonRef<'_>,
+    ) -> Result<InlineValueEvaluatableExpression, Misfit> {
         match Members::new(alloc, value)
             .required("range")
             .optional("expression")
@@ -325,7 +329,7 @@ impl FromJson for InlineValue {
       | Expression it ↦ NoneReads ⟦<InlineValueText as FromJson>⟧.reads json × NoneReads ⟦<InlineValueVariableLookup as FromJson>⟧.reads json × ⟦<InlineValueEvaluatableExpression as FromJson>⟧.reads json it
     ] };
 
-    fn from_json(alloc: Global, value: &Value) -> Result<InlineValue, Misfit> {
+    fn from_json(alloc: Global, value: &JsonRef<'_>) -> Result<InlineValue, Misfit> {
         if let Some(it) = fitting(alloc, value)? {
             return Ok(InlineValue::Text(it));
         }

@@ -1,13 +1,14 @@
 // How parts are read and written that stand in others.
-ghost use Rattle.std.specs.Prelude.{◌≡◌, IfOk, codes, option_map};
-ghost use Rattle.serde_json.specs.Find.{get};
+ghost use Rattle.std.specs.Prelude.{◌≡◌, IfOk};
 ghost use Rattle.serde_json.specs.View.{view};
-ghost use Rattle.lsp_types.specs.Reads.{ReadsAs, but_null};
+ghost use Rattle.lsp_json.specs.JsonRef.{json_data};
+ghost use Rattle.lsp_types.specs.Reads.{ReadsAs};
 ghost use Rattle.lsp_types_features.specs.Selections.{IsSelectionWithin};
 ghost use Rattle.lsp_types_features.specs.Written.{selection_range};
 
 use crate::places::SelectionRange;
-use lsp_types::json::{FromJson, Misfit, Object, ToJson, required};
+use lsp_json::JsonRef;
+use lsp_types::json::{FromJson, Misfit, Object, ToJson, present, required};
 use serde_json::Value;
 use std::alloc::{AllocError, Global};
 
@@ -41,15 +42,19 @@ fn selection_to_json(alloc: Global, selection: &SelectionRange) -> Result<Value,
 impl FromJson for SelectionRange {
     ghost reads = { IsSelectionWithin 128 };
 
-    fn from_json(alloc: Global, value: &Value) -> Result<SelectionRange, Misfit> {
+    fn from_json(alloc: Global, value: &JsonRef<'_>) -> Result<SelectionRange, Misfit> {
         selection_within(alloc, value, 128)
     }
 }
 
 /// Reads a part, with those around it up to this many levels.
 #[tactic(auto, using(crate::proofs::SelectionLemmas::none_within, crate::proofs::SelectionLemmas::made, crate::proofs::SelectionLemmas::unfit_range, crate::proofs::SelectionLemmas::unfit_around))]
-fn selection_within(alloc: Global, value: &Value, levels: u32) -> Result<SelectionRange, Misfit>
-    ensures { ReadsAs (IsSelectionWithin levels (view value.now)) result }
+fn selection_within(
+    alloc: Global,
+    value: &JsonRef<'_>,
+    levels: u32,
+) -> Result<SelectionRange, Misfit>
+    ensures { ReadsAs (IsSelectionWithin levels (json_data value.now)) result }
 {
     if levels == 0 {
         return Err(Misfit::Wanted("parts that nest less deep"));
@@ -58,13 +63,13 @@ fn selection_within(alloc: Global, value: &Value, levels: u32) -> Result<Selecti
         Ok(range) => range,
         Err(misfit) => return Err(misfit),
     };
-    let Some(around) = around(value) else {
+    let Some(around) = present(value, "parent") else {
         return Ok(SelectionRange {
             range,
             parent: None,
         });
     };
-    match selection_within(alloc, around, levels - 1) {
+    match selection_within(alloc, &around, levels - 1) {
         Ok(parent) => match Box::new(alloc, parent) {
             Ok(parent) => Ok(SelectionRange {
                 range,
@@ -76,16 +81,5 @@ fn selection_within(alloc: Global, value: &Value, levels: u32) -> Result<Selecti
             }
         },
         Err(misfit) => Err(misfit),
-    }
-}
-
-/// Returns the part around one, if it has such a member that is not null.
-fn around(value: &Value) -> Option<&Value>
-    ensures { option_map (λ parent. view parent.now) result
-        ≡ but_null (get (codes "parent") (view value.now)) }
-{
-    match value.get("parent") {
-        None | Some(Value::Null) => None,
-        Some(parent) => Some(parent),
     }
 }

@@ -6,6 +6,7 @@ ghost use Rattle.serde_json.specs.View.{view};
 ghost use Rattle.lsp_types.specs.Json.{object_of, object_with};
 ghost use Rattle.lsp_types.specs.Reads.{Beside, IfFits, IsObject, IsWithin, Optional, Required, ◌and◌};
 
+use lsp_json::JsonRef;
 use lsp_text::{Position, Range};
 use lsp_types::json::{FromJson, Members, Misfit, Object, ToJson, number_within};
 use lsp_types::{
@@ -56,7 +57,7 @@ impl FromJson for DocumentHighlight {
         and Required ⟦<Range as FromJson>⟧.reads (codes "range") json it.range
         and Optional ⟦<DocumentHighlightKind as FromJson>⟧.reads (codes "kind") json it.kind };
 
-    fn from_json(alloc: Global, value: &Value) -> Result<DocumentHighlight, Misfit> {
+    fn from_json(alloc: Global, value: &JsonRef<'_>) -> Result<DocumentHighlight, Misfit> {
         match Members::new(alloc, value)
             .required("range")
             .optional("kind")
@@ -95,7 +96,7 @@ impl ToJson for DocumentHighlightKind {
 impl FromJson for DocumentHighlightKind {
     ghost reads = { λ json it. IsWithin 1 3 json it.0 };
 
-    fn from_json(alloc: Global, value: &Value) -> Result<DocumentHighlightKind, Misfit> {
+    fn from_json(alloc: Global, value: &JsonRef<'_>) -> Result<DocumentHighlightKind, Misfit> {
         match number_within(alloc, value, 1, 3) {
             Ok(number) => Ok(DocumentHighlightKind(number)),
             Err(misfit) => Err(misfit),
@@ -183,7 +184,7 @@ impl FromJson for FoldingRange {
         and Optional ⟦<String as FromJson>⟧.reads (codes "kind") json it.kind
         and Optional ⟦<String as FromJson>⟧.reads (codes "collapsedText") json it.collapsed_text };
 
-    fn from_json(alloc: Global, value: &Value) -> Result<FoldingRange, Misfit> {
+    fn from_json(alloc: Global, value: &JsonRef<'_>) -> Result<FoldingRange, Misfit> {
         match Members::new(alloc, value)
             .required("startLine")
             .optional("startCharacter")
@@ -253,7 +254,7 @@ impl FromJson for SelectionRangeParams {
         and IfFits ⟦<ProgressToken as FromJson>⟧.reads (codes "workDoneToken") json it.work_done_token
         and IfFits ⟦<ProgressToken as FromJson>⟧.reads (codes "partialResultToken") json it.partial_result_token };
 
-    fn from_json(alloc: Global, value: &Value) -> Result<SelectionRangeParams, Misfit> {
+    fn from_json(alloc: Global, value: &JsonRef<'_>) -> Result<SelectionRangeParams, Misfit> {
         match Members::new(alloc, value)
             .required("textDocument")
             .required("positions")
@@ -336,7 +337,7 @@ impl FromJson for LinkedEditingRanges {
         and Required ⟦<Vec<Range> as FromJson>⟧.reads (codes "ranges") json it.ranges
         and Optional ⟦<String as FromJson>⟧.reads (codes "wordPattern") json it.word_pattern };
 
-    fn from_json(alloc: Global, value: &Value) -> Result<LinkedEditingRanges, Misfit> {
+    fn from_json(alloc: Global, value: &JsonRef<'_>) -> Result<LinkedEditingRanges, Misfit> {
         match Members::new(alloc, value)
             .required("ranges")
             .optional("wordPattern")
@@ -415,7 +416,7 @@ impl FromJson for Moniker {
         and Required ⟦<String as FromJson>⟧.reads (codes "unique") json it.unique
         and Optional ⟦<String as FromJson>⟧.reads (codes "kind") json it.kind };
 
-    fn from_json(alloc: Global, value: &Value) -> Result<Moniker, Misfit> {
+    fn from_json(alloc: Global, value: &JsonRef<'_>) -> Result<Moniker, Misfit> {
         match Members::new(alloc, value)
             .required("scheme")
             .required("identifier")
@@ -500,7 +501,7 @@ impl FromJson for CodeLens {
         and Optional ⟦<Value as FromJson>⟧.reads (codes "data") json it.«data»
         and Beside (codes "range" ∷ codes "command" ∷ codes "data" ∷ []) json it.more };
 
-    fn from_json(alloc: Global, value: &Value) -> Result<CodeLens, Misfit> {
+    fn from_json(alloc: Global, value: &JsonRef<'_>) -> Result<CodeLens, Misfit> {
         match Members::new(alloc, value)
             .required("range")
             .optional("command")
@@ -593,7 +594,7 @@ impl FromJson for DocumentLink {
         and Optional ⟦<Value as FromJson>⟧.reads (codes "data") json it.«data»
         and Beside (codes "range" ∷ codes "target" ∷ codes "tooltip" ∷ codes "data" ∷ []) json it.more };
 
-    fn from_json(alloc: Global, value: &Value) -> Result<DocumentLink, Misfit> {
+    fn from_json(alloc: Global, value: &JsonRef<'_>) -> Result<DocumentLink, Misfit> {
         match Members::new(alloc, value)
             .required("range")
             .optional("target")

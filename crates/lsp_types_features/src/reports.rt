@@ -5,6 +5,7 @@ ghost use Rattle.serde_json.specs.Data.{string};
 ghost use Rattle.lsp_types.specs.Json.{object_of};
 ghost use Rattle.lsp_types.specs.Reads.{IfFits, IsObject, Named, NoneReads, Optional, Required, ◌and◌};
 
+use lsp_json::JsonRef;
 use lsp_types::json::{FromJson, Members, Misfit, Object, ToJson, fitting};
 use lsp_types::{Diagnostic, ProgressToken, TextDocumentIdentifier};
 use serde_json::Value;
@@ -55,7 +56,7 @@ impl FromJson for DocumentDiagnosticParams {
         and IfFits ⟦<ProgressToken as FromJson>⟧.reads (codes "workDoneToken") json it.work_done_token
         and IfFits ⟦<ProgressToken as FromJson>⟧.reads (codes "partialResultToken") json it.partial_result_token };
 
-    fn from_json(alloc: Global, value: &Value) -> Result<DocumentDiagnosticParams, Misfit> {
+    fn from_json(alloc: Global, value: &JsonRef<'_>) -> Result<DocumentDiagnosticParams, Misfit> {
         match Members::new(alloc, value)
             .required("textDocument")
             .optional("identifier")
@@ -130,7 +131,10 @@ impl FromJson for FullDocumentDiagnosticReport {
         and Optional ⟦<String as FromJson>⟧.reads (codes "resultId") json it.result_id
         and Required ⟦<Vec<Diagnostic> as FromJson>⟧.reads (codes "items") json it.items };
 
-    fn from_json(alloc: Global, value: &Value) -> Result<FullDocumentDiagnosticReport, Misfit> {
+    fn from_json(
+        alloc: Global,
+        value: &JsonRef<'_>,
+    ) -> Result<FullDocumentDiagnosticReport, Misfit> {
         match Members::new(alloc, value)
             .named("kind", "full")
             .optional("resultId")
@@ -173,7 +177,7 @@ impl FromJson for UnchangedDocumentDiagnosticReport {
 
     fn from_json(
         alloc: Global,
-        value: &Value,
+        value: &JsonRef<'_>,
     ) -> Result<UnchangedDocumentDiagnosticReport, Misfit> {
         match Members::new(alloc, value)
             .named("kind", "unchanged")
@@ -222,7 +226,7 @@ impl FromJson for RelatedReport {
       | Unchanged it ↦ NoneReads ⟦<FullDocumentDiagnosticReport as FromJson>⟧.reads json × ⟦<UnchangedDocumentDiagnosticReport as FromJson>⟧.reads json it
     ] };
 
-    fn from_json(alloc: Global, value: &Value) -> Result<RelatedReport, Misfit> {
+    fn from_json(alloc: Global, value: &JsonRef<'_>) -> Result<RelatedReport, Misfit> {
         if let Some(it) = fitting(alloc, value)? {
             return Ok(RelatedReport::Full(it));
         }
@@ -290,7 +294,7 @@ impl FromJson for RelatedFullDocumentDiagnosticReport {
 
     fn from_json(
         alloc: Global,
-        value: &Value,
+        value: &JsonRef<'_>,
     ) -> Result<RelatedFullDocumentDiagnosticReport, Misfit> {
         match Members::new(alloc, value)
             .named("kind", "full")
@@ -362,7 +366,7 @@ impl FromJson for RelatedUnchangedDocumentDiagnosticReport {
 
     fn from_json(
         alloc: Global,
-        value: &Value,
+        value: &JsonRef<'_>,
     ) -> Result<RelatedUnchangedDocumentDiagnosticReport, Misfit> {
         match Members::new(alloc, value)
             .named("kind", "unchanged")
@@ -415,7 +419,7 @@ impl FromJson for DocumentDiagnosticReport {
       | Unchanged it ↦ NoneReads ⟦<RelatedFullDocumentDiagnosticReport as FromJson>⟧.reads json × ⟦<RelatedUnchangedDocumentDiagnosticReport as FromJson>⟧.reads json it
     ] };
 
-    fn from_json(alloc: Global, value: &Value) -> Result<DocumentDiagnosticReport, Misfit> {
+    fn from_json(alloc: Global, value: &JsonRef<'_>) -> Result<DocumentDiagnosticReport, Misfit> {
         if let Some(it) = fitting(alloc, value)? {
             return Ok(DocumentDiagnosticReport::Full(it));
         }
@@ -453,7 +457,7 @@ impl FromJson for PreviousResultId {
         and Required ⟦<String as FromJson>⟧.reads (codes "uri") json it.uri
         and Required ⟦<String as FromJson>⟧.reads (codes "value") json it.value };
 
-    fn from_json(alloc: Global, value: &Value) -> Result<PreviousResultId, Misfit> {
+    fn from_json(alloc: Global, value: &JsonRef<'_>) -> Result<PreviousResultId, Misfit> {
         match Members::new(alloc, value)
             .required("uri")
             .required("value")
@@ -507,7 +511,7 @@ impl FromJson for WorkspaceDiagnosticParams {
         and IfFits ⟦<ProgressToken as FromJson>⟧.reads (codes "workDoneToken") json it.work_done_token
         and IfFits ⟦<ProgressToken as FromJson>⟧.reads (codes "partialResultToken") json it.partial_result_token };
 
-    fn from_json(alloc: Global, value: &Value) -> Result<WorkspaceDiagnosticParams, Misfit> {
+    fn from_json(alloc: Global, value: &JsonRef<'_>) -> Result<WorkspaceDiagnosticParams, Misfit> {
         match Members::new(alloc, value)
             .optional("identifier")
             .required("previousResultIds")
@@ -595,7 +599,7 @@ impl FromJson for WorkspaceFullDocumentDiagnosticReport {
 
     fn from_json(
         alloc: Global,
-        value: &Value,
+        value: &JsonRef<'_>,
     ) -> Result<WorkspaceFullDocumentDiagnosticReport, Misfit> {
         match Members::new(alloc, value)
             .named("kind", "full")
@@ -675,7 +679,7 @@ impl FromJson for WorkspaceUnchangedDocumentDiagnosticReport {
 
     fn from_json(
         alloc: Global,
-        value: &Value,
+        value: &JsonRef<'_>,
     ) -> Result<WorkspaceUnchangedDocumentDiagnosticReport, Misfit> {
         match Members::new(alloc, value)
             .named("kind", "unchanged")
@@ -732,7 +736,7 @@ impl FromJson for WorkspaceDocumentDiagnosticReport {
 
     fn from_json(
         alloc: Global,
-        value: &Value,
+        value: &JsonRef<'_>,
     ) -> Result<WorkspaceDocumentDiagnosticReport, Misfit> {
         if let Some(it) = fitting(alloc, value)? {
             return Ok(WorkspaceDocumentDiagnosticReport::Full(it));
@@ -764,7 +768,7 @@ impl FromJson for WorkspaceDiagnosticReport {
     ghost reads = { λ json it. IsObject json
         and Required ⟦<Vec<WorkspaceDocumentDiagnosticReport> as FromJson>⟧.reads (codes "items") json it.items };
 
-    fn from_json(alloc: Global, value: &Value) -> Result<WorkspaceDiagnosticReport, Misfit> {
+    fn from_json(alloc: Global, value: &JsonRef<'_>) -> Result<WorkspaceDiagnosticReport, Misfit> {
         match Members::new(alloc, value).required("items").end() {
             Ok(read) => {
                 let ((), items) = read;
@@ -798,7 +802,10 @@ impl FromJson for DiagnosticServerCancellationData {
     ghost reads = { λ json it. IsObject json
         and Required ⟦<bool as FromJson>⟧.reads (codes "retriggerRequest") json it.retrigger_request };
 
-    fn from_json(alloc: Global, value: &Value) -> Result<DiagnosticServerCancellationData, Misfit> {
+    fn from_json(
+        alloc: Global,
+        value: &JsonRef<'_>,
+    ) -> Result<DiagnosticServerCancellationData, Misfit> {
         match Members::new(alloc, value)
             .required("retriggerRequest")
             .end()

@@ -4,6 +4,7 @@ ghost use Rattle.std.specs.Prelude.{◌∷◌, [], Some, codes, option_map};
 ghost use Rattle.lsp_types.specs.Json.{object_of};
 ghost use Rattle.lsp_types.specs.Reads.{IfFits, IsObject, NoneReads, Optional, Required, ◌and◌};
 
+use lsp_json::JsonRef;
 use lsp_types::json::{FromJson, Members, Misfit, Object, ToJson, fitting};
 use lsp_types::{ProgressToken, SemanticTokens, TextDocumentIdentifier};
 use serde_json::Value;
@@ -47,7 +48,7 @@ impl FromJson for SemanticTokensDeltaParams {
         and IfFits ⟦<ProgressToken as FromJson>⟧.reads (codes "workDoneToken") json it.work_done_token
         and IfFits ⟦<ProgressToken as FromJson>⟧.reads (codes "partialResultToken") json it.partial_result_token };
 
-    fn from_json(alloc: Global, value: &Value) -> Result<SemanticTokensDeltaParams, Misfit> {
+    fn from_json(alloc: Global, value: &JsonRef<'_>) -> Result<SemanticTokensDeltaParams, Misfit> {
         match Members::new(alloc, value)
             .required("textDocument")
             .required("previousResultId")
@@ -123,7 +124,7 @@ impl FromJson for SemanticTokensEdit {
         and Required ⟦<u32 as FromJson>⟧.reads (codes "deleteCount") json it.delete_count
         and Optional ⟦<Vec<u32> as FromJson>⟧.reads (codes "data") json it.«data» };
 
-    fn from_json(alloc: Global, value: &Value) -> Result<SemanticTokensEdit, Misfit> {
+    fn from_json(alloc: Global, value: &JsonRef<'_>) -> Result<SemanticTokensEdit, Misfit> {
         match Members::new(alloc, value)
             .required("start")
             .required("deleteCount")
@@ -187,7 +188,7 @@ impl FromJson for SemanticTokensDelta {
         and Optional ⟦<String as FromJson>⟧.reads (codes "resultId") json it.result_id
         and Required ⟦<Vec<SemanticTokensEdit> as FromJson>⟧.reads (codes "edits") json it.edits };
 
-    fn from_json(alloc: Global, value: &Value) -> Result<SemanticTokensDelta, Misfit> {
+    fn from_json(alloc: Global, value: &JsonRef<'_>) -> Result<SemanticTokensDelta, Misfit> {
         match Members::new(alloc, value)
             .optional("resultId")
             .required("edits")
@@ -235,7 +236,7 @@ impl FromJson for SemanticTokensDeltaResult {
       | Tokens it ↦ NoneReads ⟦<SemanticTokensDelta as FromJson>⟧.reads json × ⟦<SemanticTokens as FromJson>⟧.reads json it
     ] };
 
-    fn from_json(alloc: Global, value: &Value) -> Result<SemanticTokensDeltaResult, Misfit> {
+    fn from_json(alloc: Global, value: &JsonRef<'_>) -> Result<SemanticTokensDeltaResult, Misfit> {
         if let Some(it) = fitting(alloc, value)? {
             return Ok(SemanticTokensDeltaResult::Delta(it));
         }

@@ -4,6 +4,7 @@ ghost use Rattle.std.specs.Prelude.{◌∷◌, [], Some, codes, option_map};
 ghost use Rattle.lsp_types.specs.Json.{object_of};
 ghost use Rattle.lsp_types.specs.Reads.{IsObject, NoneReads, Optional, Required, ◌and◌};
 
+use lsp_json::JsonRef;
 use lsp_types::WorkspaceFolder;
 use lsp_types::json::{FromJson, Members, Misfit, Object, ToJson, fitting};
 use serde_json::Value;
@@ -29,7 +30,7 @@ impl FromJson for FileCreate {
     ghost reads = { λ json it. IsObject json
         and Required ⟦<String as FromJson>⟧.reads (codes "uri") json it.uri };
 
-    fn from_json(alloc: Global, value: &Value) -> Result<FileCreate, Misfit> {
+    fn from_json(alloc: Global, value: &JsonRef<'_>) -> Result<FileCreate, Misfit> {
         match Members::new(alloc, value).required("uri").end() {
             Ok(read) => {
                 let ((), uri) = read;
@@ -61,7 +62,7 @@ impl FromJson for CreateFilesParams {
     ghost reads = { λ json it. IsObject json
         and Required ⟦<Vec<FileCreate> as FromJson>⟧.reads (codes "files") json it.files };
 
-    fn from_json(alloc: Global, value: &Value) -> Result<CreateFilesParams, Misfit> {
+    fn from_json(alloc: Global, value: &JsonRef<'_>) -> Result<CreateFilesParams, Misfit> {
         match Members::new(alloc, value).required("files").end() {
             Ok(read) => {
                 let ((), files) = read;
@@ -106,7 +107,7 @@ impl FromJson for FileRename {
         and Required ⟦<String as FromJson>⟧.reads (codes "oldUri") json it.old_uri
         and Required ⟦<String as FromJson>⟧.reads (codes "newUri") json it.new_uri };
 
-    fn from_json(alloc: Global, value: &Value) -> Result<FileRename, Misfit> {
+    fn from_json(alloc: Global, value: &JsonRef<'_>) -> Result<FileRename, Misfit> {
         match Members::new(alloc, value)
             .required("oldUri")
             .required("newUri")
@@ -142,7 +143,7 @@ impl FromJson for RenameFilesParams {
     ghost reads = { λ json it. IsObject json
         and Required ⟦<Vec<FileRename> as FromJson>⟧.reads (codes "files") json it.files };
 
-    fn from_json(alloc: Global, value: &Value) -> Result<RenameFilesParams, Misfit> {
+    fn from_json(alloc: Global, value: &JsonRef<'_>) -> Result<RenameFilesParams, Misfit> {
         match Members::new(alloc, value).required("files").end() {
             Ok(read) => {
                 let ((), files) = read;
@@ -188,7 +189,10 @@ impl FromJson for FileOperationPatternOptions {
     ghost reads = { λ json it. IsObject json
         and Optional ⟦<bool as FromJson>⟧.reads (codes "ignoreCase") json it.ignore_case };
 
-    fn from_json(alloc: Global, value: &Value) -> Result<FileOperationPatternOptions, Misfit> {
+    fn from_json(
+        alloc: Global,
+        value: &JsonRef<'_>,
+    ) -> Result<FileOperationPatternOptions, Misfit> {
         match Members::new(alloc, value).optional("ignoreCase").end() {
             Ok(read) => {
                 let ((), ignore_case) = read;
@@ -250,7 +254,7 @@ impl FromJson for FileOperationPattern {
         and Optional ⟦<String as FromJson>⟧.reads (codes "matches") json it.matches
         and Optional ⟦<FileOperationPatternOptions as FromJson>⟧.reads (codes "options") json it.options };
 
-    fn from_json(alloc: Global, value: &Value) -> Result<FileOperationPattern, Misfit> {
+    fn from_json(alloc: Global, value: &JsonRef<'_>) -> Result<FileOperationPattern, Misfit> {
         match Members::new(alloc, value)
             .required("glob")
             .optional("matches")
@@ -314,7 +318,7 @@ impl FromJson for FileOperationFilter {
         and Optional ⟦<String as FromJson>⟧.reads (codes "scheme") json it.scheme
         and Required ⟦<FileOperationPattern as FromJson>⟧.reads (codes "pattern") json it.pattern };
 
-    fn from_json(alloc: Global, value: &Value) -> Result<FileOperationFilter, Misfit> {
+    fn from_json(alloc: Global, value: &JsonRef<'_>) -> Result<FileOperationFilter, Misfit> {
         match Members::new(alloc, value)
             .optional("scheme")
             .required("pattern")
@@ -349,7 +353,10 @@ impl FromJson for FileOperationRegistrationOptions {
     ghost reads = { λ json it. IsObject json
         and Required ⟦<Vec<FileOperationFilter> as FromJson>⟧.reads (codes "filters") json it.filters };
 
-    fn from_json(alloc: Global, value: &Value) -> Result<FileOperationRegistrationOptions, Misfit> {
+    fn from_json(
+        alloc: Global,
+        value: &JsonRef<'_>,
+    ) -> Result<FileOperationRegistrationOptions, Misfit> {
         match Members::new(alloc, value).required("filters").end() {
             Ok(read) => {
                 let ((), filters) = read;
@@ -433,7 +440,7 @@ impl FromJson for FileOperationOptions {
         and Optional ⟦<FileOperationRegistrationOptions as FromJson>⟧.reads (codes "didDelete") json it.did_delete
         and Optional ⟦<FileOperationRegistrationOptions as FromJson>⟧.reads (codes "willDelete") json it.will_delete };
 
-    fn from_json(alloc: Global, value: &Value) -> Result<FileOperationOptions, Misfit> {
+    fn from_json(alloc: Global, value: &JsonRef<'_>) -> Result<FileOperationOptions, Misfit> {
         match Members::new(alloc, value)
             .optional("didCreate")
             .optional("willCreate")
@@ -497,7 +504,7 @@ impl FromJson for BaseUri {
       | Folder it ↦ NoneReads ⟦<String as FromJson>⟧.reads json × ⟦<WorkspaceFolder as FromJson>⟧.reads json it
     ] };
 
-    fn from_json(alloc: Global, value: &Value) -> Result<BaseUri, Misfit> {
+    fn from_json(alloc: Global, value: &JsonRef<'_>) -> Result<BaseUri, Misfit> {
         if let Some(it) = fitting(alloc, value)? {
             return Ok(BaseUri::Uri(it));
         }
@@ -535,7 +542,7 @@ impl FromJson for RelativePattern {
         and Required ⟦<BaseUri as FromJson>⟧.reads (codes "baseUri") json it.base_uri
         and Required ⟦<String as FromJson>⟧.reads (codes "pattern") json it.pattern };
 
-    fn from_json(alloc: Global, value: &Value) -> Result<RelativePattern, Misfit> {
+    fn from_json(alloc: Global, value: &JsonRef<'_>) -> Result<RelativePattern, Misfit> {
         match Members::new(alloc, value)
             .required("baseUri")
             .required("pattern")
@@ -583,7 +590,7 @@ impl FromJson for GlobPattern {
       | Relative it ↦ NoneReads ⟦<String as FromJson>⟧.reads json × ⟦<RelativePattern as FromJson>⟧.reads json it
     ] };
 
-    fn from_json(alloc: Global, value: &Value) -> Result<GlobPattern, Misfit> {
+    fn from_json(alloc: Global, value: &JsonRef<'_>) -> Result<GlobPattern, Misfit> {
         if let Some(it) = fitting(alloc, value)? {
             return Ok(GlobPattern::Pattern(it));
         }
@@ -622,7 +629,7 @@ impl FromJson for FileSystemWatcher {
         and Required ⟦<GlobPattern as FromJson>⟧.reads (codes "globPattern") json it.glob_pattern
         and Optional ⟦<u32 as FromJson>⟧.reads (codes "kind") json it.kind };
 
-    fn from_json(alloc: Global, value: &Value) -> Result<FileSystemWatcher, Misfit> {
+    fn from_json(alloc: Global, value: &JsonRef<'_>) -> Result<FileSystemWatcher, Misfit> {
         match Members::new(alloc, value)
             .required("globPattern")
             .optional("kind")
@@ -660,7 +667,7 @@ impl FromJson for DidChangeWatchedFilesRegistrationOptions {
 
     fn from_json(
         alloc: Global,
-        value: &Value,
+        value: &JsonRef<'_>,
     ) -> Result<DidChangeWatchedFilesRegistrationOptions, Misfit> {
         match Members::new(alloc, value).required("watchers").end() {
             Ok(read) => {

@@ -5,6 +5,7 @@ ghost use Rattle.serde_json.specs.Data.{number, unsigned};
 ghost use Rattle.lsp_types.specs.Json.{object_of};
 ghost use Rattle.lsp_types.specs.Reads.{IsObject, IsWithin, Optional, Required, ◌and◌};
 
+use lsp_json::JsonRef;
 use lsp_text::ContentChange;
 use lsp_types::json::{FromJson, Members, Misfit, Object, ToJson, number_within};
 use lsp_types::{TextDocumentIdentifier, TextDocumentItem, VersionedTextDocumentIdentifier};
@@ -33,7 +34,7 @@ impl ToJson for NotebookCellKind {
 impl FromJson for NotebookCellKind {
     ghost reads = { λ json it. IsWithin 1 2 json it.0 };
 
-    fn from_json(alloc: Global, value: &Value) -> Result<NotebookCellKind, Misfit> {
+    fn from_json(alloc: Global, value: &JsonRef<'_>) -> Result<NotebookCellKind, Misfit> {
         match number_within(alloc, value, 1, 2) {
             Ok(number) => Ok(NotebookCellKind(number)),
             Err(misfit) => Err(misfit),
@@ -68,7 +69,7 @@ impl FromJson for ExecutionSummary {
         and Required ⟦<u32 as FromJson>⟧.reads (codes "executionOrder") json it.execution_order
         and Optional ⟦<bool as FromJson>⟧.reads (codes "success") json it.success };
 
-    fn from_json(alloc: Global, value: &Value) -> Result<ExecutionSummary, Misfit> {
+    fn from_json(alloc: Global, value: &JsonRef<'_>) -> Result<ExecutionSummary, Misfit> {
         match Members::new(alloc, value)
             .required("executionOrder")
             .optional("success")
@@ -123,7 +124,7 @@ impl FromJson for NotebookCell {
         and Optional ⟦<Value as FromJson>⟧.reads (codes "metadata") json it.metadata
         and Optional ⟦<ExecutionSummary as FromJson>⟧.reads (codes "executionSummary") json it.execution_summary };
 
-    fn from_json(alloc: Global, value: &Value) -> Result<NotebookCell, Misfit> {
+    fn from_json(alloc: Global, value: &JsonRef<'_>) -> Result<NotebookCell, Misfit> {
         match Members::new(alloc, value)
             .required("kind")
             .required("document")
@@ -187,7 +188,7 @@ impl FromJson for NotebookDocument {
         and Optional ⟦<Value as FromJson>⟧.reads (codes "metadata") json it.metadata
         and Required ⟦<Vec<NotebookCell> as FromJson>⟧.reads (codes "cells") json it.cells };
 
-    fn from_json(alloc: Global, value: &Value) -> Result<NotebookDocument, Misfit> {
+    fn from_json(alloc: Global, value: &JsonRef<'_>) -> Result<NotebookDocument, Misfit> {
         match Members::new(alloc, value)
             .required("uri")
             .required("notebookType")
@@ -238,7 +239,10 @@ impl FromJson for DidOpenNotebookDocumentParams {
         and Required ⟦<NotebookDocument as FromJson>⟧.reads (codes "notebookDocument") json it.notebook_document
         and Required ⟦<Vec<TextDocumentItem> as FromJson>⟧.reads (codes "cellTextDocuments") json it.cell_text_documents };
 
-    fn from_json(alloc: Global, value: &Value) -> Result<DidOpenNotebookDocumentParams, Misfit> {
+    fn from_json(
+        alloc: Global,
+        value: &JsonRef<'_>,
+    ) -> Result<DidOpenNotebookDocumentParams, Misfit> {
         match Members::new(alloc, value)
             .required("notebookDocument")
             .required("cellTextDocuments")
@@ -285,7 +289,7 @@ impl FromJson for VersionedNotebookDocumentIdentifier {
 
     fn from_json(
         alloc: Global,
-        value: &Value,
+        value: &JsonRef<'_>,
     ) -> Result<VersionedNotebookDocumentIdentifier, Misfit> {
         match Members::new(alloc, value)
             .required("version")
@@ -333,7 +337,7 @@ impl FromJson for NotebookCellArrayChange {
         and Required ⟦<u32 as FromJson>⟧.reads (codes "deleteCount") json it.delete_count
         and Optional ⟦<Vec<NotebookCell> as FromJson>⟧.reads (codes "cells") json it.cells };
 
-    fn from_json(alloc: Global, value: &Value) -> Result<NotebookCellArrayChange, Misfit> {
+    fn from_json(alloc: Global, value: &JsonRef<'_>) -> Result<NotebookCellArrayChange, Misfit> {
         match Members::new(alloc, value)
             .required("start")
             .required("deleteCount")
@@ -385,7 +389,7 @@ impl FromJson for NotebookCellStructure {
         and Optional ⟦<Vec<TextDocumentItem> as FromJson>⟧.reads (codes "didOpen") json it.did_open
         and Optional ⟦<Vec<TextDocumentIdentifier> as FromJson>⟧.reads (codes "didClose") json it.did_close };
 
-    fn from_json(alloc: Global, value: &Value) -> Result<NotebookCellStructure, Misfit> {
+    fn from_json(alloc: Global, value: &JsonRef<'_>) -> Result<NotebookCellStructure, Misfit> {
         match Members::new(alloc, value)
             .required("array")
             .optional("didOpen")
@@ -432,7 +436,7 @@ impl FromJson for NotebookCellTextChange {
         and Required ⟦<VersionedTextDocumentIdentifier as FromJson>⟧.reads (codes "document") json it.document
         and Required ⟦<Vec<ContentChange> as FromJson>⟧.reads (codes "changes") json it.changes };
 
-    fn from_json(alloc: Global, value: &Value) -> Result<NotebookCellTextChange, Misfit> {
+    fn from_json(alloc: Global, value: &JsonRef<'_>) -> Result<NotebookCellTextChange, Misfit> {
         match Members::new(alloc, value)
             .required("document")
             .required("changes")
@@ -479,7 +483,7 @@ impl FromJson for NotebookCellChanges {
         and Optional ⟦<Vec<NotebookCell> as FromJson>⟧.reads (codes "data") json it.«data»
         and Optional ⟦<Vec<NotebookCellTextChange> as FromJson>⟧.reads (codes "textContent") json it.text_content };
 
-    fn from_json(alloc: Global, value: &Value) -> Result<NotebookCellChanges, Misfit> {
+    fn from_json(alloc: Global, value: &JsonRef<'_>) -> Result<NotebookCellChanges, Misfit> {
         match Members::new(alloc, value)
             .optional("structure")
             .optional("data")
@@ -526,7 +530,10 @@ impl FromJson for NotebookDocumentChangeEvent {
         and Optional ⟦<Value as FromJson>⟧.reads (codes "metadata") json it.metadata
         and Optional ⟦<NotebookCellChanges as FromJson>⟧.reads (codes "cells") json it.cells };
 
-    fn from_json(alloc: Global, value: &Value) -> Result<NotebookDocumentChangeEvent, Misfit> {
+    fn from_json(
+        alloc: Global,
+        value: &JsonRef<'_>,
+    ) -> Result<NotebookDocumentChangeEvent, Misfit> {
         match Members::new(alloc, value)
             .optional("metadata")
             .optional("cells")
@@ -568,7 +575,10 @@ impl FromJson for DidChangeNotebookDocumentParams {
         and Required ⟦<VersionedNotebookDocumentIdentifier as FromJson>⟧.reads (codes "notebookDocument") json it.notebook_document
         and Required ⟦<NotebookDocumentChangeEvent as FromJson>⟧.reads (codes "change") json it.change };
 
-    fn from_json(alloc: Global, value: &Value) -> Result<DidChangeNotebookDocumentParams, Misfit> {
+    fn from_json(
+        alloc: Global,
+        value: &JsonRef<'_>,
+    ) -> Result<DidChangeNotebookDocumentParams, Misfit> {
         match Members::new(alloc, value)
             .required("notebookDocument")
             .required("change")
@@ -611,7 +621,10 @@ impl FromJson for DidSaveNotebookDocumentParams {
     ghost reads = { λ json it. IsObject json
         and Required ⟦<NotebookDocumentIdentifier as FromJson>⟧.reads (codes "notebookDocument") json it.notebook_document };
 
-    fn from_json(alloc: Global, value: &Value) -> Result<DidSaveNotebookDocumentParams, Misfit> {
+    fn from_json(
+        alloc: Global,
+        value: &JsonRef<'_>,
+    ) -> Result<DidSaveNotebookDocumentParams, Misfit> {
         match Members::new(alloc, value)
             .required("notebookDocument")
             .end()
@@ -652,7 +665,10 @@ impl FromJson for DidCloseNotebookDocumentParams {
         and Required ⟦<NotebookDocumentIdentifier as FromJson>⟧.reads (codes "notebookDocument") json it.notebook_document
         and Required ⟦<Vec<TextDocumentIdentifier> as FromJson>⟧.reads (codes "cellTextDocuments") json it.cell_text_documents };
 
-    fn from_json(alloc: Global, value: &Value) -> Result<DidCloseNotebookDocumentParams, Misfit> {
+    fn from_json(
+        alloc: Global,
+        value: &JsonRef<'_>,
+    ) -> Result<DidCloseNotebookDocumentParams, Misfit> {
         match Members::new(alloc, value)
             .required("notebookDocument")
             .required("cellTextDocuments")

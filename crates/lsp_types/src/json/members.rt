@@ -1,6 +1,6 @@
 // The members of an object, as they are read.
 ghost use Rattle.std.specs.Prelude.{◌≡◌, map};
-ghost use Rattle.serde_json.specs.View.{view};
+ghost use Rattle.lsp_json.specs.JsonRef.{json_data};
 ghost use Rattle.lsp_types.specs.Offers.{NumberOr, Offered, Options};
 ghost use Rattle.lsp_types.specs.Reads.{
   Beside,
@@ -22,22 +22,23 @@ use crate::json::read_rest::beside;
 use crate::json::read_values::text_or_empty;
 use crate::json::reading::{if_fits, named};
 use crate::json::{FromJson, Misfit, optional, required};
+use lsp_json::JsonRef;
 use serde_json::Value;
 use std::alloc::Global;
 
 /// The members of an object, which are read one after another. The first misfit is kept until the end, so no step
 /// returns an error.
 #[derive(Drop)]
-pub struct Members<'v, A: Drop> {
+pub struct Members<'v, 'a, A: Drop> {
     alloc: Global,
-    value: &'v Value,
+    value: &'v JsonRef<'a>,
     read: Result<A, Misfit>,
 }
 
-impl<'v> Members<'v, ()> {
+impl<'v, 'a> Members<'v, 'a, ()> {
     /// Starts with no member read.
-    pub fn new(alloc: Global, value: &'v Value) -> Members<'v, ()>
-        ensures { ReadSoFar (view value.now) (λ _. IsObject (view value.now)) (view result.value.now) result.read }
+    pub fn new(alloc: Global, value: &'v JsonRef<'a>) -> Members<'v, 'a, ()>
+        ensures { ReadSoFar (json_data value.now) (λ _. IsObject (json_data value.now)) (json_data result.value.now) result.read }
     {
         let read = if value.is_object() {
             Ok(())
@@ -48,11 +49,11 @@ impl<'v> Members<'v, ()> {
     }
 }
 
-impl<'v, A: Drop> Members<'v, A> {
+impl<'v, 'a, A: Drop> Members<'v, 'a, A> {
     /// Reads a required member.
-    pub fn required<T: FromJson>(self, key: &'static str) -> Members<'v, (A, T)>
+    pub fn required<T: FromJson>(self, key: &'static str) -> Members<'v, 'a, (A, T)>
         ensures { ReadsMore (Required T.reads key.now)
-            (view self.entry.value.now) self.entry.read (view result.value.now) result.read }
+            (json_data self.entry.value.now) self.entry.read (json_data result.value.now) result.read }
     {
         let Members { alloc, value, read } = self;
         let more = required(alloc, value, key);
@@ -64,9 +65,9 @@ impl<'v, A: Drop> Members<'v, A> {
     }
 
     /// Reads a member that may be missing or null.
-    pub fn optional<T: FromJson>(self, key: &'static str) -> Members<'v, (A, Option<T>)>
+    pub fn optional<T: FromJson>(self, key: &'static str) -> Members<'v, 'a, (A, Option<T>)>
         ensures { ReadsMore (Optional T.reads key.now)
-            (view self.entry.value.now) self.entry.read (view result.value.now) result.read }
+            (json_data self.entry.value.now) self.entry.read (json_data result.value.now) result.read }
     {
         let Members { alloc, value, read } = self;
         let more = optional(alloc, value, key);
@@ -78,9 +79,9 @@ impl<'v, A: Drop> Members<'v, A> {
     }
 
     /// Reads a member that only informs. It is `None` if it is missing, null or does not fit.
-    pub fn if_fits<T: FromJson>(self, key: &'static str) -> Members<'v, (A, Option<T>)>
+    pub fn if_fits<T: FromJson>(self, key: &'static str) -> Members<'v, 'a, (A, Option<T>)>
         ensures { ReadsMore (IfFits T.reads key.now)
-            (view self.entry.value.now) self.entry.read (view result.value.now) result.read }
+            (json_data self.entry.value.now) self.entry.read (json_data result.value.now) result.read }
     {
         let Members { alloc, value, read } = self;
         let more = if_fits(alloc, value, key);
@@ -92,9 +93,9 @@ impl<'v, A: Drop> Members<'v, A> {
     }
 
     /// Reads a required list, without the items that do not fit.
-    pub fn those_that_fit<T: FromJson>(self, key: &'static str) -> Members<'v, (A, Vec<T>)>
+    pub fn those_that_fit<T: FromJson>(self, key: &'static str) -> Members<'v, 'a, (A, Vec<T>)>
         ensures { ReadsMore (ThoseThatFit T.reads key.now)
-            (view self.entry.value.now) self.entry.read (view result.value.now) result.read }
+            (json_data self.entry.value.now) self.entry.read (json_data result.value.now) result.read }
     {
         let Members { alloc, value, read } = self;
         let more = those_that_fit(alloc, value, key);
@@ -106,9 +107,9 @@ impl<'v, A: Drop> Members<'v, A> {
     }
 
     /// Reads a text that only informs. It is empty if it is missing, null or no text.
-    pub fn text_or_empty(self, key: &'static str) -> Members<'v, (A, String)>
+    pub fn text_or_empty(self, key: &'static str) -> Members<'v, 'a, (A, String)>
         ensures { ReadsMore (TextOrEmpty key.now)
-            (view self.entry.value.now) self.entry.read (view result.value.now) result.read }
+            (json_data self.entry.value.now) self.entry.read (json_data result.value.now) result.read }
     {
         let Members { alloc, value, read } = self;
         let more = text_or_empty(alloc, value, key);
@@ -120,9 +121,9 @@ impl<'v, A: Drop> Members<'v, A> {
     }
 
     /// Reads the members with other keys than these, as an object. It is `None` if there are none.
-    pub fn rest(self, keys: &[&'static str]) -> Members<'v, (A, Option<Value>)>
+    pub fn rest(self, keys: &[&'static str]) -> Members<'v, 'a, (A, Option<Value>)>
         ensures { ReadsMore (Beside (map (λ key. key.now) keys.now))
-            (view self.entry.value.now) self.entry.read (view result.value.now) result.read }
+            (json_data self.entry.value.now) self.entry.read (json_data result.value.now) result.read }
     {
         let Members { alloc, value, read } = self;
         let more = beside(alloc, value, keys);
@@ -135,9 +136,9 @@ impl<'v, A: Drop> Members<'v, A> {
 
     /// Reads a member that offers something: a boolean, or options, which mean true. It is `None` if it is missing or
     /// null.
-    pub fn offered(self, key: &'static str) -> Members<'v, (A, Option<bool>)>
+    pub fn offered(self, key: &'static str) -> Members<'v, 'a, (A, Option<bool>)>
         ensures { ReadsMore (Offered key.now)
-            (view self.entry.value.now) self.entry.read (view result.value.now) result.read }
+            (json_data self.entry.value.now) self.entry.read (json_data result.value.now) result.read }
     {
         let Members { alloc, value, read } = self;
         let more = offered(value, key);
@@ -149,9 +150,9 @@ impl<'v, A: Drop> Members<'v, A> {
     }
 
     /// Reads options. `true` means options of which none is set. They are `None` if they are missing, null or `false`.
-    pub fn options<T: FromJson>(self, key: &'static str) -> Members<'v, (A, Option<T>)>
+    pub fn options<T: FromJson>(self, key: &'static str) -> Members<'v, 'a, (A, Option<T>)>
         ensures { ReadsMore (Options T.reads key.now)
-            (view self.entry.value.now) self.entry.read (view result.value.now) result.read }
+            (json_data self.entry.value.now) self.entry.read (json_data result.value.now) result.read }
     {
         let Members { alloc, value, read } = self;
         let more = options(alloc, value, key);
@@ -168,9 +169,9 @@ impl<'v, A: Drop> Members<'v, A> {
         self,
         key: &'static str,
         inside: &'static str,
-    ) -> Members<'v, (A, Option<T>)>
+    ) -> Members<'v, 'a, (A, Option<T>)>
         ensures { ReadsMore (NumberOr T.reads inside.now key.now)
-            (view self.entry.value.now) self.entry.read (view result.value.now) result.read }
+            (json_data self.entry.value.now) self.entry.read (json_data result.value.now) result.read }
     {
         let Members { alloc, value, read } = self;
         let more = number_or(alloc, value, key, inside);
@@ -182,9 +183,9 @@ impl<'v, A: Drop> Members<'v, A> {
     }
 
     /// Reads a member that has to be this text.
-    pub fn named(self, key: &'static str, name: &'static str) -> Members<'v, (A, ())>
+    pub fn named(self, key: &'static str, name: &'static str) -> Members<'v, 'a, (A, ())>
         ensures { ReadsMore (λ json _. Named key.now name.now json)
-            (view self.entry.value.now) self.entry.read (view result.value.now) result.read }
+            (json_data self.entry.value.now) self.entry.read (json_data result.value.now) result.read }
     {
         let Members { alloc, value, read } = self;
         let more = named(value, key, name);

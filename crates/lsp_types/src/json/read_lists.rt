@@ -2,10 +2,12 @@
 ghost use Rattle.std.specs.Prelude.{◌≡◌, IfErr, OnOk};
 ghost use Rattle.lsp_types.specs.declared.json.reading.Misfit.TheVariants.{Memory};
 ghost use Rattle.serde_json.specs.Find.{as_array, as_object};
-ghost use Rattle.serde_json.specs.View.{items_view, members_view, view};
+ghost use Rattle.serde_json.specs.View.{members_view, view};
+ghost use Rattle.lsp_json.specs.JsonRef.{items_data, json_data};
 ghost use Rattle.lsp_types.specs.Reads.{EachItem, EachMember, FittingItems, InSome, Puts, ReadsAs, ThoseThatFit};
 
 use crate::json::{FromJson, Misfit, fitting};
+use lsp_json::{JsonItems, JsonRef};
 use serde_json::{Map, Value};
 use std::alloc::Global;
 use std::collections::BTreeMap;
@@ -13,22 +15,22 @@ use std::collections::BTreeMap;
 impl<T: FromJson> FromJson for Vec<T> {
     ghost reads = { λ json values. InSome (λ items. EachItem T.reads items values.items) (as_array json) };
 
-    fn from_json(alloc: Global, value: &Value) -> Result<Vec<T>, Misfit> {
-        match value.as_array() {
-            Some(items) => each_item(alloc, items.as_slice()),
+    fn from_json(alloc: Global, value: &JsonRef<'_>) -> Result<Vec<T>, Misfit> {
+        match value.items() {
+            Some(items) => each_item(alloc, items),
             None => Err(Misfit::Wanted("a list")),
         }
     }
 }
 
 /// Reads the values of items.
-#[tactic(auto, using(crate::proofs::ReadLemmas::item_more, crate::proofs::ReadLemmas::item_at))]
-fn each_item<T: FromJson>(alloc: Global, items: &[Value]) -> Result<Vec<T>, Misfit>
-    ensures { ReadsAs (λ values. EachItem T.reads (items_view items.now) values.items) result }
+#[tactic(auto, using(crate::proofs::ItemLemmas::before_all, crate::proofs::ItemLemmas::all_before, crate::proofs::ItemLemmas::before_more, crate::proofs::ItemLemmas::next_fits, crate::proofs::ItemLemmas::fewer))]
+fn each_item<T: FromJson>(alloc: Global, mut items: JsonItems<'_>) -> Result<Vec<T>, Misfit>
+    ensures { ReadsAs (λ values. EachItem T.reads (items_data items.entry) values.items) result }
 {
     let mut values = Vec::new(alloc);
-    for item in items {
-        let value = T::from_json(alloc, item)?;
+    while let Some(item) = items.next() {
+        let value = T::from_json(alloc, &item)?;
         if values.push(value).is_err() {
             return Err(Misfit::Memory);
         }
@@ -40,28 +42,28 @@ fn each_item<T: FromJson>(alloc: Global, items: &[Value]) -> Result<Vec<T>, Misf
 #[tactic(auto, unfolding(crate::specs::Reads::ThoseThatFit))]
 pub fn those_that_fit<T: FromJson>(
     alloc: Global,
-    value: &Value,
+    value: &JsonRef<'_>,
     key: &'static str,
 ) -> Result<Vec<T>, Misfit>
-    ensures { ReadsAs (ThoseThatFit T.reads key.now (view value.now)) result }
+    ensures { ReadsAs (ThoseThatFit T.reads key.now (json_data value.now)) result }
 {
     let Some(member) = value.get(key) else {
         return Err(Misfit::Missing(key));
     };
-    match member.as_array() {
-        Some(items) => fitting_items(alloc, items.as_slice()),
+    match member.items() {
+        Some(items) => fitting_items(alloc, items),
         None => Err(Misfit::WantedAt(key, "a list")),
     }
 }
 
 /// Reads the values of the items that fit.
-#[tactic(auto, using(crate::proofs::ReadLemmas::fits_more, crate::proofs::ReadLemmas::fits_not))]
-fn fitting_items<T: FromJson>(alloc: Global, items: &[Value]) -> Result<Vec<T>, Misfit>
-    ensures { ReadsAs (λ values. FittingItems T.reads (items_view items.now) values.items) result }
+#[tactic(auto, using(crate::proofs::ItemLemmas::fit_before_all, crate::proofs::ItemLemmas::all_fit, crate::proofs::ItemLemmas::fewer))]
+fn fitting_items<T: FromJson>(alloc: Global, mut items: JsonItems<'_>) -> Result<Vec<T>, Misfit>
+    ensures { ReadsAs (λ values. FittingItems T.reads (items_data items.entry) values.items) result }
 {
     let mut values = Vec::new(alloc);
-    for item in items {
-        if let Some(value) = fitting(alloc, item)? {
+    while let Some(item) = items.next() {
+        if let Some(value) = fitting(alloc, &item)? {
             if values.push(value).is_err() {
                 return Err(Misfit::Memory);
             }
@@ -73,11 +75,29 @@ fn fitting_items<T: FromJson>(alloc: Global, items: &[Value]) -> Result<Vec<T>, 
 impl<T: FromJson> FromJson for BTreeMap<String, T> {
     ghost reads = { λ json values. InSome (λ members. EachMember T.reads members values.entries) (as_object json) };
 
-    fn from_json(alloc: Global, value: &Value) -> Result<BTreeMap<String, T>, Misfit> {
-        match value.as_object() {
-            Some(members) => each_member(alloc, members),
-            None => Err(Misfit::Wanted("an object")),
+    fn from_json(alloc: Global, value: &JsonRef<'_>) -> Result<BTreeMap<String, T>, Misfit> {
+        if let Some(tree) = value.as_tree() {
+            return map_of(alloc, tree);
         }
+        match value.to_value(alloc) {
+            Ok(tree) => {
+                let map = map_of(alloc, &tree);
+                drop(tree);
+                map
+            }
+            Err(_) => Err(Misfit::Memory),
+        }
+    }
+}
+
+/// Reads the map that a tree is.
+fn map_of<T: FromJson>(alloc: Global, tree: &Value) -> Result<BTreeMap<String, T>, Misfit>
+    ensures { ReadsAs (λ values. InSome (λ members. EachMember T.reads members values.entries)
+        (as_object (view tree.now))) result }
+{
+    match tree.as_object() {
+        Some(members) => each_member(alloc, members),
+        None => Err(Misfit::Wanted("an object")),
     }
 }
 
@@ -90,7 +110,7 @@ fn each_member<T: FromJson>(
 {
     let mut values = BTreeMap::new(alloc);
     for (key, member) in members {
-        match T::from_json(alloc, member) {
+        match T::from_json(alloc, &JsonRef::of_tree(member)) {
             Ok(value) => put(alloc, &mut values, key.as_str(), value)?,
             Err(misfit) => return Err(misfit),
         }

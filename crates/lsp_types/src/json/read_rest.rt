@@ -3,18 +3,41 @@ ghost use Rattle.std.specs.Prelude.{◌≡◌, IfOk, OnOk, map, option_map};
 ghost use Rattle.serde_json.specs.Data.{object};
 ghost use Rattle.serde_json.specs.Find.{as_object};
 ghost use Rattle.serde_json.specs.View.{members_view, view};
+ghost use Rattle.lsp_json.specs.JsonRef.{json_data};
 ghost use Rattle.lsp_types.specs.Reads.{Beside, ReadsAs, object_if, others, with_other};
 
 use crate::json::Misfit;
+use lsp_json::JsonRef;
 use serde_json::{Map, Value};
 use std::alloc::{AllocError, Global};
 
 /// Returns the members with other keys than these, as an object, or `None` if there are none.
-#[tactic(auto, unfolding(crate::specs::Reads::Beside))]
-pub fn beside(alloc: Global, value: &Value, keys: &[&'static str]) -> Result<Option<Value>, Misfit>
-    ensures { ReadsAs (Beside (map (λ key. key.now) keys.now) (view value.now)) result }
+pub fn beside(
+    alloc: Global,
+    value: &JsonRef<'_>,
+    keys: &[&'static str],
+) -> Result<Option<Value>, Misfit>
+    ensures { ReadsAs (Beside (map (λ key. key.now) keys.now) (json_data value.now)) result }
 {
-    match value.as_object() {
+    if let Some(tree) = value.as_tree() {
+        return tree_beside(alloc, tree, keys);
+    }
+    match value.to_value(alloc) {
+        Ok(tree) => {
+            let rest = tree_beside(alloc, &tree, keys);
+            drop(tree);
+            rest
+        }
+        Err(_) => Err(Misfit::Memory),
+    }
+}
+
+/// Returns the same for a tree.
+#[tactic(auto, unfolding(crate::specs::Reads::Beside))]
+fn tree_beside(alloc: Global, tree: &Value, keys: &[&'static str]) -> Result<Option<Value>, Misfit>
+    ensures { ReadsAs (Beside (map (λ key. key.now) keys.now) (view tree.now)) result }
+{
+    match tree.as_object() {
         Some(members) => object_beside(alloc, members, keys),
         None => Err(Misfit::Wanted("an object")),
     }

@@ -1,24 +1,16 @@
-use Rattle.std.proofs.Common.{◌≡◌, List, [], ◌∷◌, length, map, refl, subst, sym, arith, ℕ, ap, ◌∙◌}
-use Rattle.std.proofs.lemmas.Grind.{common_steps}
-use Rattle.serde_json.specs.View.{items_of, view}
-use Rattle.serde_json.specs.declared.value.Value.{Value}
+use Rattle.std.proofs.Common.{◌≡◌, ℕ, [], ◌∷◌, Option, None, Some, refl}
+use Rattle.serde_json.specs.Data.{Data, Items, item, no_items}
 use Rattle.lsp_types.specs.Reads.{EachItem, InSome, IsWhole}
 use Rattle.lsp_types.proofs.offsets.LabelOffsetsFromJson.from_json.Goals as goal
 
 -- what two numbers are read from has two items
-two : (values : List Value) (start end : ℕ) → EachItem IsWhole (items_of (map view values)) (start ∷ end ∷ [])
-    → length values ≡ 2
-two [] start end each = absurd each
-two (v ∷ []) start end each = absurd each.1
-two (v ∷ w ∷ []) start end each = refl
-two (v ∷ w ∷ u ∷ values) start end each = absurd each.1.1
+two : (found : Option Items) (start end : ℕ) → InSome (λ items. EachItem IsWhole items (start ∷ end ∷ [])) found
+    → (one : Data) × (other : Data) × (found ≡ Some (item one (item other no_items)))
+two None start end each = absurd each
+two (Some no_items) start end each = absurd each
+two (Some (item one no_items)) start end each = absurd each.1
+two (Some (item one (item other no_items))) start end each = (one, other, refl)
+two (Some (item one (item other (item third rest)))) start end each = absurd each.1.1
 
-pub returns-in_default-as_slice : goal.returns-in_default-as_slice
-returns-in_default-as_slice c fits it each =
-    let read = subst (λ found. InSome (λ items. EachItem IsWhole items (it.start ∷ it.end ∷ [])) found)
-    (sym c.in-Some.ensures) each in
-    let count : length c.as_slice.result.now ≡ 2 = ap length c.as_slice.ensures.value ∙ two _ _ _ read in
-    elim c.in_default-as_slice.branch [
-      | goal.in_default-as_slice-via-then-as_slice-lt2 w ↦ absurd (grind (arith, common_steps, count))
-      | goal.in_default-as_slice-via-else-as_slice-lt2+else-this-lt3 w ↦ absurd (grind (arith, common_steps, count))
-    ]
+pub returns-in-None : goal.returns-in-None
+returns-in-None c fits it each = let found = two _ _ _ each in c.in-None.ensures found.0 found.1 found.2
