@@ -25,6 +25,7 @@ use lsp_diagnostics::{AnalysedDocuments, Findings};
 use lsp_documents::{SyncOptions, TextDocuments, uri_from};
 use lsp_features::{announce, dispatch};
 use lsp_jobs::{AnsweredBy, JobCommand, JobEnd, JobName, JobServer, KeyedJobs, WorkDone};
+use lsp_json::JsonRef;
 use lsp_methods::send_request;
 use lsp_server::policies::SkipAndFlag;
 use lsp_server::{Act, ErrorCode, Notification, Request, ResponseError, Server};
@@ -232,7 +233,9 @@ impl TomlServer {
     fn document(&self, params: &Value) -> Option<&TextDocument>
         ensures { option_copied result ≡ document_for self.now.texts.documents (view params.now) }
     {
-        self.texts.documents.get(uri_from(params)?)
+        self.texts
+            .documents
+            .get(uri_from(&JsonRef::of_tree(params))?)
     }
 
     /// Finds the keys of all texts that contain a word, at once.

@@ -1,10 +1,9 @@
 -- What notifications make of what is kept of one URI, beside the client's own document.
 use Rattle.std.proofs.Common.{◌≡◌, ℕ, ℤ, Bool, true, false, ◌||◌, List, [], ◌∷◌, ◌++◌, Option, Some, None, refl, sym}
-use Rattle.std.proofs.Common.{ap, subst, ◌∙◌, arith, inl, inr, is_none, option_and_then, option_map, append_assoc}
-use Rattle.std.specs.Prelude.{if◌then◌else◌, not, ◌&&◌, is_some, unwrap_or, IfSome, IsSomeAnd, Result, Ok, Err, OnErr}
-use Rattle.std.specs.Prelude.{◌<◌, length}
+use Rattle.std.proofs.Common.{ap, subst, ◌∙◌, arith, inl, inr, is_none, option_and_then, option_map}
+use Rattle.std.specs.Prelude.{if◌then◌else◌, not, ◌&&◌, is_some, unwrap_or, IfSome, IsSomeAnd}
+use Rattle.std.specs.Prelude.{length}
 use Rattle.std.specs.Str.{bytes_eq}
-use Rattle.std.proofs.lemmas.List.{append-nil}
 use Rattle.std.proofs.lemmas.Slice.Eq.{bytes_eq-Decides}
 use Rattle.lsp_text.specs.Documents.{Change, Document}
 use Rattle.lsp_text.specs.Edits.{edited, edited_by}
@@ -17,10 +16,6 @@ use Rattle.lsp_documents.specs.declared.fault.DocumentFault.{DocumentFault}
 use Rattle.lsp_documents.specs.declared.fault.DocumentFault.TheVariants.{NotOpen, OutOfOrder, Memory}
 use Rattle.lsp_documents.specs.declared.kept.DocumentState.{DocumentState}
 use Rattle.lsp_documents.specs.declared.kept.DocumentState.TheVariants.{Known, Lost}
-use Rattle.serde_json.specs.Data.{Data, Items, no_items, item}
-use Rattle.serde_json.specs.View.{view, items_view}
-use Rattle.serde_json.specs.declared.value.Value.{Value}
-use Rattle.lsp_documents.specs.Params.{change_in, changes_in, is_whole, whole_among, values_since_whole}
 use Rattle.lsp_documents.specs.Remains.{Remains, Kept}
 use Rattle.lsp_documents.specs.Notices.{saved_in, Item, text_item, text_by, edited_text, kept_by, begun_by, changed_in}
 use Rattle.lsp_documents.specs.declared.kept_document.Origin.{Origin}
@@ -737,17 +732,6 @@ change_refused before now (Some a) version given (Some cs) u w fault said hv hu 
     now) (left_is before.sync (before.held u) version cs fault f) m in
     subst (λ x. Failed before (Some (edits x version cs)) (Some x) said now) (sym ea) (inl (f ∙ ap Some (sym hs), p))
 
-more_changes : (c : Option Change) (cs : Option (List Change)) → IfSome (option_and_then (λ c. option_map (λ cs. c ∷ cs)
-    cs) c) (λ cs. has_changes cs ≡ true)
-more_changes None cs = tt
-more_changes (Some c) None = tt
-more_changes (Some c) (Some cs) = refl
-
--- a list with something in it has changes, if they can be read
-pub some_changes : (vs : List Value) → 0 < length vs → IfSome (changes_in (items_view vs)) (λ cs. has_changes cs ≡ true)
-some_changes [] h = grind (arith, h)
-some_changes (v ∷ vs) h = more_changes (change_in (view v)) (changes_in (items_view vs))
-
 -- no memory was left for them
 pub change_starved : (before now : Documents) (uris : Option (List ℕ)) (version given : Option ℤ) (changes : Option
     (List Change)) (u : List ℕ) (w : Bool) (said : DocumentFault) → given ≡ version → uris ≡ Some u
@@ -769,49 +753,6 @@ change_starved before now (Some a) version given (Some cs) u w said hv hu hw hf 
       needed = hn;
       misses = subst (λ x. Puts before x (missed (before.held x)) now) (sym ea) m;
     })
-
--- one more change, read
-pub whole_more : (w b : Bool) (first : Option Change) (rest : Option (List Change)) → Some b
-    ≡ option_map (λ c. is_none c.range) first →
-    option_map (λ cs. w || has_whole cs) (option_and_then (λ c. option_map (λ cs. c ∷ cs) rest) first)
-    ≡ option_map (λ cs. (w || b) || has_whole cs) rest
-whole_more w b None rest h = none_value (sym h)
-whole_more w b (Some c) None h = refl
-whole_more true b (Some c) (Some cs) h = refl
-whole_more false b (Some c) (Some cs) h = ap (λ x. Some (x || has_whole cs)) (sym (some_value h))
-
--- ---- changes, read one after another
-
--- one more was read
-pub change_more : (done : List Change) (c : Change) (first : Option Change) (rest : Option (List Change)) → first
-    ≡ Some c →
-    option_map (λ cs. done ++ cs) (option_and_then (λ c. option_map (λ cs. c ∷ cs) rest) first)
-    ≡ option_map (λ cs. (done ++ (c ∷ [])) ++ cs) rest
-change_more done c None rest h = none_value h
-change_more done c (Some d) None h = refl
-change_more done c (Some d) (Some cs) h = ap (λ x. Some (done ++ (x ∷ cs))) (some_value h)
-    ∙ ap Some (sym (append_assoc done (c ∷ []) cs))
-
--- the next is none
-pub change_none : (done : List Change) (first : Option Change) (rest : Option (List Change)) → first ≡ None → None
-    ≡ option_map (λ cs. done ++ cs) (option_and_then (λ c. option_map (λ cs. c ∷ cs) rest) first)
-change_none done None rest h = refl
-change_none done (Some c) rest h = none_value (sym h)
-
--- all were read
-pub change_all : (done : List Change) (vs : List Value) → vs ≡ [] → Some done ≡ option_map (λ cs. done ++ cs)
-    (changes_in (items_view vs))
-change_all done vs h = rw h (ap Some (sym (append-nil done)))
-
--- none was read yet
-pub change_first : (done : List Change) (all : Option (List Change)) → done ≡ [] → all ≡ option_map (λ cs. done
-    ++ cs) all
-change_first done None h = refl
-change_first done (Some cs) h = rw h refl
-
-pub at_error : {T E Q : Type 0} (r : Result T E) → Q → OnErr r Q
-at_error (Ok x) q = tt
-at_error (Err e) q = q
 
 -- ---- what decides of a list
 
@@ -841,15 +782,3 @@ deciding_all (c ∷ cs) = pick_all (is_none c.range) (has_whole cs) (since_whole
 pub deciding_more : (c : Change) (cs before : List Change) → deciding (c ∷ cs) before ≡ deciding cs (if is_none c.range
     then c ∷ cs else before)
 deciding_more c cs before = pick_more (is_none c.range) (has_whole cs) (since_whole cs) (c ∷ cs) before
-
--- the same of values
-abbrev pub values_deciding : Items → Items → Items
-values_deciding left before = if whole_among left then values_since_whole left else before
-
-pub values_all : (vs : Items) → values_since_whole vs ≡ values_deciding vs vs
-values_all no_items = refl
-values_all (item d ds) = pick_all (is_whole (change_in d)) (whole_among ds) (values_since_whole ds) (item d ds)
-
-pub values_more : (d : Data) (ds before : Items) → values_deciding (item d ds) before ≡ values_deciding ds
-    (if is_whole (change_in d) then item d ds else before)
-values_more d ds before = pick_more (is_whole (change_in d)) (whole_among ds) (values_since_whole ds) (item d ds) before

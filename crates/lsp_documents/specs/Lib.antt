@@ -8,3 +8,4 @@ pub mod Methods
 pub mod Heard
 pub mod Announced
 pub mod Sessions
+pub mod Passes

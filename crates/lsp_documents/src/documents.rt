@@ -4,6 +4,7 @@ ghost use Rattle.std.specs.Option.{option_copied};
 ghost use Rattle.std.specs.Str.{bytes_eq};
 ghost use Rattle.std.specs.String.Boundary.{IsSplitPoint};
 ghost use Rattle.serde_json.specs.View.{view};
+ghost use Rattle.lsp_json.specs.JsonRef.{json_data};
 ghost use Rattle.lsp_text.specs.Columns.{offset_of, IsPlace};
 ghost use Rattle.lsp_documents.specs.Heard.{Answers};
 ghost use Rattle.lsp_documents.specs.Held.{documents_of, known_of, texts_of, has_known, loses};
@@ -24,10 +25,11 @@ use crate::lost::LostDocument;
 use crate::method::DocumentMethod;
 use crate::negotiation::SyncOptions;
 use crate::params;
+use lsp_calls::NotificationRef;
+use lsp_json::JsonRef;
 use lsp_message::Notification;
 use lsp_text::{ContentChange, Position, PositionEncoding, Range, Text, TextDocument};
 use lsp_types::names_path;
-use serde_json::Value;
 use std::alloc::{AllocError, Global};
 use std::collections::BTreeMap;
 use std::collections::btree_map::Iter;
@@ -517,7 +519,21 @@ impl TextDocuments {
             (λ method. IsSomeAnd result (λ heard.
             Answers method self.old (view notification.now.params) heard self.new)) }
     {
-        let method = DocumentMethod::named(notification.method.as_str())?;
+        self.apply_ref(&NotificationRef::of(notification))
+    }
+
+    /// Does what `apply` does for a notification whose params are read where they stand. The texts of the result last
+    /// as long as what the params are read from.
+    pub fn apply_ref<'v>(
+        &mut self,
+        notification: &NotificationRef<'v>,
+    ) -> Option<Result<DocumentUpdate<'v>, UpdateFault<'v>>>
+        ensures { MatchOption (method_named notification.now.method.now)
+            ((result ≡ None) × (self.new ≡ self.old))
+            (λ method. IsSomeAnd result (λ heard.
+            Answers method self.old (json_data notification.now.params) heard self.new)) }
+    {
+        let method = DocumentMethod::named(notification.method)?;
         Some(self.apply_as(method, &notification.params))
     }
 
@@ -525,9 +541,9 @@ impl TextDocuments {
     fn apply_as<'v>(
         &mut self,
         method: DocumentMethod,
-        params: &'v Value,
+        params: &JsonRef<'v>,
     ) -> Result<DocumentUpdate<'v>, UpdateFault<'v>>
-        ensures { Answers method self.old (view params.now) result self.new }
+        ensures { Answers method self.old (json_data params.now) result self.new }
     {
         match method {
             DocumentMethod::DidOpen => self.did_open(params),
@@ -540,17 +556,20 @@ impl TextDocuments {
     /// Opens the document in the params of `textDocument/didOpen` (LSP 3.17, `DidOpenTextDocumentParams`), as `open`
     /// does. If the params have another shape, the fault is `Params`, and the text of the URI that they name is lost.
     /// If they name none, each text is lost.
-    pub fn did_open<'v>(&mut self, params: &'v Value) -> Result<DocumentUpdate<'v>, UpdateFault<'v>>
+    pub fn did_open<'v>(
+        &mut self,
+        params: &JsonRef<'v>,
+    ) -> Result<DocumentUpdate<'v>, UpdateFault<'v>>
         ensures ok { IfOk result (λ m.
-            IsSomeAnd (did_open_in (view params.now)) (λ n. (m.uri.now ≡ n.uri)
+            IsSomeAnd (did_open_in (json_data params.now)) (λ n. (m.uri.now ≡ n.uri)
             × Took (documents_of self.old) n m.warning (documents_of self.new))) }
         ensures err { IfErr result (λ m.
-            Failed (documents_of self.old) (did_open_in (view params.now))
-            (uri_from (view params.now)) m.fault (documents_of self.new)) }
+            Failed (documents_of self.old) (did_open_in (json_data params.now))
+            (uri_from (json_data params.now)) m.fault (documents_of self.new)) }
         ensures named { IfErr result (λ m.
-            option_map (λ s. s.now) m.uri ≡ uri_from (view params.now)) }
+            option_map (λ s. s.now) m.uri ≡ uri_from (json_data params.now)) }
         ensures lost { IfErr result (λ m.
-            m.lost ≡ loses self.old (uri_from (view params.now)) self.new) }
+            m.lost ≡ loses self.old (uri_from (json_data params.now)) self.new) }
     {
         let Some(uri) = params::uri_from(params) else {
             return Err(self.missed_all());
@@ -570,18 +589,18 @@ impl TextDocuments {
     /// is lost. If they name none, each text is lost.
     pub fn did_change<'v>(
         &mut self,
-        params: &'v Value,
+        params: &JsonRef<'v>,
     ) -> Result<DocumentUpdate<'v>, UpdateFault<'v>>
         ensures ok { IfOk result (λ m.
-            IsSomeAnd (did_change_in (view params.now)) (λ n. (m.uri.now ≡ n.uri)
+            IsSomeAnd (did_change_in (json_data params.now)) (λ n. (m.uri.now ≡ n.uri)
             × Took (documents_of self.old) n m.warning (documents_of self.new))) }
         ensures err { IfErr result (λ m.
-            Failed (documents_of self.old) (did_change_in (view params.now))
-            (uri_from (view params.now)) m.fault (documents_of self.new)) }
+            Failed (documents_of self.old) (did_change_in (json_data params.now))
+            (uri_from (json_data params.now)) m.fault (documents_of self.new)) }
         ensures named { IfErr result (λ m.
-            option_map (λ s. s.now) m.uri ≡ uri_from (view params.now)) }
+            option_map (λ s. s.now) m.uri ≡ uri_from (json_data params.now)) }
         ensures lost { IfErr result (λ m.
-            m.lost ≡ loses self.old (uri_from (view params.now)) self.new) }
+            m.lost ≡ loses self.old (uri_from (json_data params.now)) self.new) }
     {
         let Some(uri) = params::uri_from(params) else {
             return Err(self.missed_all());
@@ -608,15 +627,18 @@ impl TextDocuments {
     /// Notes that the document in the params of `textDocument/didSave` was saved (LSP 3.17,
     /// `DidSaveTextDocumentParams`), as `save` does. A text that is no string counts as missing. If the params name no
     /// URI, the fault is `Params`, and nothing is changed, since a save changes no text.
-    pub fn did_save<'v>(&mut self, params: &'v Value) -> Result<DocumentUpdate<'v>, UpdateFault<'v>>
+    pub fn did_save<'v>(
+        &mut self,
+        params: &JsonRef<'v>,
+    ) -> Result<DocumentUpdate<'v>, UpdateFault<'v>>
         ensures ok { IfOk result (λ m.
-            IsSomeAnd (did_save_in (view params.now)) (λ n. (m.uri.now ≡ n.uri)
+            IsSomeAnd (did_save_in (json_data params.now)) (λ n. (m.uri.now ≡ n.uri)
             × Took (documents_of self.old) n m.warning (documents_of self.new))) }
         ensures err { IfErr result (λ m.
-            FailedSave (documents_of self.old) (did_save_in (view params.now)) m.fault
+            FailedSave (documents_of self.old) (did_save_in (json_data params.now)) m.fault
             (documents_of self.new)) }
         ensures named { IfErr result (λ m.
-            option_map (λ s. s.now) m.uri ≡ uri_from (view params.now)) }
+            option_map (λ s. s.now) m.uri ≡ uri_from (json_data params.now)) }
         ensures lost { IfErr result (λ m. m.lost ≡ false) }
     {
         let Some(uri) = params::uri_from(params) else {
@@ -633,18 +655,18 @@ impl TextDocuments {
     /// documents is closed.
     pub fn did_close<'v>(
         &mut self,
-        params: &'v Value,
+        params: &JsonRef<'v>,
     ) -> Result<DocumentUpdate<'v>, UpdateFault<'v>>
         ensures ok { IfOk result (λ m.
-            IsSomeAnd (did_close_in (view params.now)) (λ n. (m.uri.now ≡ n.uri)
+            IsSomeAnd (did_close_in (json_data params.now)) (λ n. (m.uri.now ≡ n.uri)
             × Took (documents_of self.old) n m.warning (documents_of self.new))) }
         ensures err { IfErr result (λ m.
-            Failed (documents_of self.old) (did_close_in (view params.now))
-            (uri_from (view params.now)) m.fault (documents_of self.new)) }
+            Failed (documents_of self.old) (did_close_in (json_data params.now))
+            (uri_from (json_data params.now)) m.fault (documents_of self.new)) }
         ensures named { IfErr result (λ m.
-            option_map (λ s. s.now) m.uri ≡ uri_from (view params.now)) }
+            option_map (λ s. s.now) m.uri ≡ uri_from (json_data params.now)) }
         ensures lost { IfErr result (λ m.
-            m.lost ≡ loses self.old (uri_from (view params.now)) self.new) }
+            m.lost ≡ loses self.old (uri_from (json_data params.now)) self.new) }
     {
         let Some(uri) = params::uri_from(params) else {
             return Err(self.missed_all());

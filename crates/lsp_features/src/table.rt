@@ -1,8 +1,9 @@
 // The methods of a server, as one list.
 ghost use Rattle.std.specs.Prelude.{◌≡◌, ◌≢◌, ◌⊎◌, ◌∷◌, [], List, ℕ, ⊤, map, string_bytes};
-ghost use Rattle.std.specs.Prelude.{IfOk, IfNone, IfSome, MatchResult, OnOk, Result};
+ghost use Rattle.std.specs.Prelude.{IfOk, IfNone, IfSome, MatchOption, MatchResult, OnOk, Result};
 ghost use Rattle.serde_json.specs.Data.{Data};
 ghost use Rattle.serde_json.specs.View.{members_view, view};
+ghost use Rattle.lsp_json.specs.JsonRef.{json_data};
 ghost use Rattle.lsp_message.specs.Message.{ErrorObject};
 ghost use Rattle.lsp_message.specs.View.{outcome_view};
 ghost use Rattle.lsp_types.specs.Json.{object_of, with_members};
@@ -12,8 +13,10 @@ ghost use Rattle.lsp_features.specs.Features.{Announced, AnnouncesFirst, IsOutco
 
 use crate::feature::{Answers, Feature};
 use lsp_acts::Act;
+use lsp_calls::RequestRef;
+use lsp_json::JsonRef;
 use lsp_message::{Request, ResponseError};
-use lsp_methods::from_value;
+use lsp_methods::from_json;
 use lsp_types::ToJson;
 use serde_json::{Map, Value};
 use std::alloc::{AllocError, Global};
@@ -46,12 +49,12 @@ pub trait FeatureTable<S> {
     fn answer(
         server: &mut S,
         alloc: Global,
-        request: &Request,
+        request: &RequestRef<'_>,
     ) -> Result<Option<Result<Value, ResponseError>>, AllocError>
         ensures none { IfOk result (λ found. IfNone found
-            (lacks (string_bytes request.now.method) × (server.new ≡ server.old))) }
+            (lacks request.now.method.now × (server.new ≡ server.old))) }
         ensures some { IfOk result (λ found. IfSome found (λ outcome.
-            answers server.old (string_bytes request.now.method) (view request.now.params)
+            answers server.old request.now.method.now (json_data request.now.params)
             (outcome_view outcome) server.new)) };
 }
 
@@ -73,7 +76,7 @@ impl<S> FeatureTable<S> for () {
     fn answer(
         _server: &mut S,
         _alloc: Global,
-        _request: &Request,
+        _request: &RequestRef<'_>,
     ) -> Result<Option<Result<Value, ResponseError>>, AllocError> {
         Ok(None)
     }
@@ -106,9 +109,9 @@ where
     fn answer(
         server: &mut S,
         alloc: Global,
-        request: &Request,
+        request: &RequestRef<'_>,
     ) -> Result<Option<Result<Value, ResponseError>>, AllocError> {
-        if request.method.as_str() != M::method() {
+        if request.method != M::method() {
             return Rest::answer(server, alloc, request);
         }
         Ok(Some(outcome::<M, S>(server, alloc, &request.params)?))
@@ -119,15 +122,15 @@ where
 fn outcome<M, S>(
     server: &mut S,
     alloc: Global,
-    params: &Value,
+    params: &JsonRef<'_>,
 ) -> Result<Result<Value, ResponseError>, AllocError>
 where
     S: Answers<M>,
     M: Feature<S>,
     ensures { IfOk result (λ outcome. IsOutcome M.Params.reads S.answers M.Result.stands
-        server.old (view params.now) (outcome_view outcome) server.new) }
+        server.old (json_data params.now) (outcome_view outcome) server.new) }
 {
-    match from_value::<M::Params>(alloc, params)? {
+    match from_json::<M::Params>(alloc, params)? {
         Ok(params) => {
             let found = server.answer(params)?;
             Ok(Ok(found.to_json(alloc)?))
@@ -168,7 +171,7 @@ where
         × (map (act_view P.eq) acts.items ≡ replies request.id outcome ∷ []))
         (λ same. (same ≡ request) × T.lacks (string_bytes request.method) × (server.new ≡ server.old))) }
 {
-    match T::answer(server, alloc, &request)? {
+    match T::answer(server, alloc, &RequestRef::of(&request))? {
         Some(outcome) => {
             let Request { id, method, params } = request;
             drop(method);
@@ -176,5 +179,32 @@ where
             Ok(Ok(Act::one(alloc, Act::Reply(id, outcome))?))
         }
         None => Ok(Err(request)),
+    }
+}
+
+/// Does what `dispatch` does for a request whose params are read where they stand. The result is `None` if the table
+/// has not the method of the request. Then the server stays as it is.
+///
+/// `Err(AllocError)` means that an allocation failed.
+pub fn dispatch_ref<T, S, P>(
+    alloc: Global,
+    server: &mut S,
+    request: &RequestRef<'_>,
+) -> Result<Option<Vec<Act<P>>>, AllocError>
+where
+    T: FeatureTable<S>,
+    P: Drop + PartialEq,
+    ensures { IfOk result (λ answered. MatchOption answered
+        (T.lacks request.now.method.now × (server.new ≡ server.old))
+        (λ acts. (outcome : Result Data ErrorObject)
+        × T.answers server.old request.now.method.now (json_data request.now.params) outcome server.new
+        × (map (act_view P.eq) acts.items ≡ replies request.now.id.now outcome ∷ []))) }
+{
+    match T::answer(server, alloc, request)? {
+        Some(outcome) => {
+            let id = request.id.clone()?;
+            Ok(Some(Act::one(alloc, Act::Reply(id, outcome))?))
+        }
+        None => Ok(None),
     }
 }
