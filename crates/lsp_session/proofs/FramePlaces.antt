@@ -21,7 +21,6 @@ use Rattle.lsp_message.specs.HeaderPart.{header_line, header_of, is_field, lengt
 use Rattle.lsp_message.specs.Message.{Message}
 use Rattle.lsp_message.specs.Reading.{Reading, found}
 use Rattle.lsp_message.specs.ReadingSteps.{Decodes}
-use Rattle.lsp_message.specs.View.{message_view}
 use Rattle.lsp_message.specs.declared.frame.ReadFault.{ReadFault}
 use Rattle.lsp_message.specs.declared.frame.ReadFault.TheVariants.{Memory, HeaderTooLong, TooLong, NoLength}
 use Rattle.lsp_message.specs.declared.frame.ReadFault.TheVariants.{LineNotText, LineEnd, NoJson, ShortBody}
@@ -494,10 +493,10 @@ module _ (limits : Limits) where
       read_message m means = subst (λ (l : List ℕ). IsFrameRead limits m l) (take-append-drop start new)
           (whole_message size (take start new) (drop start new) head size_of m means)
 
-      pub read_fault : (fault : ReadFault) → fault ≢ Memory → Decodes message_view (Err fault)
-          (body_means (drop start new)) → IsFaultOf limits new fault
-      read_fault Memory other means = absurd (other refl)
-      read_fault fault other means = subst (λ (l : List ℕ). IsFaultOf limits l fault) (take-append-drop start new)
+      pub read_fault : {X : Type 0} (view : X → Message) (fault : ReadFault) → fault ≢ Memory
+          → Decodes view (Err fault) (body_means (drop start new)) → IsFaultOf limits new fault
+      read_fault view Memory other means = absurd (other refl)
+      read_fault view fault other means = subst (λ (l : List ℕ). IsFaultOf limits l fault) (take-append-drop start new)
           (whole_fault size (take start new) (drop start new) head size_of fault other means)
 
   -- ---- places

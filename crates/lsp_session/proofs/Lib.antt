@@ -15,6 +15,7 @@ pub mod Handing
 pub mod Handshake
 pub mod HeaderLines
 pub mod Histories
+pub mod Incoming
 pub mod Knowing
 pub mod Late
 pub mod Lending

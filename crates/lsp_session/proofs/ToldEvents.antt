@@ -2,8 +2,7 @@
 use Rattle.lsp_message.specs.Failures.{Kinds, AreInterrupted, FailsFor, ReaderFails}
 use Rattle.lsp_message.specs.Frame.{reading_within}
 use Rattle.lsp_message.specs.Told.{Parts, IsOfParts, Told}
-use Rattle.lsp_message.specs.View.{message_view}
-use Rattle.lsp_message.specs.declared.msg.Message as msg
+use Rattle.lsp_message.specs.Message.{Message}
 use Rattle.lsp_message.specs.declared.frame.ReadFault.{ReadFault}
 use Rattle.lsp_message.specs.declared.frame.ReadFault.TheVariants.{BodyNotText, NoJson, NoMessage, Batch}
 use Rattle.lsp_message.specs.declared.frame.byte_trace.ByteTrace.{ByteTrace}
@@ -20,28 +19,29 @@ use Rattle.std.specs.List.{concat}
 use Rattle.std.specs.Prelude.{Ok, length, is_some}
 
 -- no more come
-pub closed_parts : (limit : Limits) (old new : Option ReadEnd) (parts : Parts) → ReadParts limit old (Ok None) new parts
-    → EventParts limit old closed new parts
-closed_parts limit None new parts told = subst (λ end. EventParts limit None closed end parts) (sym told.0) told.1
-closed_parts limit (Some end) new parts told = (refl, told.2)
+pub closed_parts : {X : Type 0} (view : X → Message) (limit : Limits) (old new : Option ReadEnd) (parts : Parts)
+    → ReadParts limit view old (Ok None) new parts → EventParts limit old closed new parts
+closed_parts view limit None new parts told = subst (λ end. EventParts limit None closed end parts) (sym told.0) told.1
+closed_parts view limit (Some end) new parts told = (refl, told.2)
 
 -- and the policy is as it was
-pub told_closed : {L : Type 0} (passes : L → ReadFault → L → Type 0) (limit : Limits) (old new : Option ReadEnd)
-    (policy after : L) (t u : Parts) (a b : Option (List ℕ)) → after ≡ policy
-    → Told (ReadParts limit old (Ok None) new) t u a b
+pub told_closed : {X L : Type 0} (view : X → Message) (passes : L → ReadFault → L → Type 0) (limit : Limits)
+    (old new : Option ReadEnd) (policy after : L) (t u : Parts) (a b : Option (List ℕ)) → after ≡ policy
+    → Told (ReadParts limit view old (Ok None) new) t u a b
     → Told (TakenFor limit passes (old, policy) closed (new, after)) t u a b
-told_closed passes limit old new policy after t u a b same told = (
+told_closed view passes limit old new policy after t u a b same told = (
   told.0,
   told.1,
-  (closed_parts limit old new told.0 told.2, same),
+  (closed_parts view limit old new told.0 told.2, same),
 )
 
 -- a message
-pub told_next : (limit : Limits) (before after : Option ReadEnd) (m : msg.Message) (t u : Parts) (a b : Option (List ℕ))
-    → is_some before ≡ false → Told (IsOfParts message_view (reading_within limit) (Ok (Some m))) t u a b
-    → Told (ReadParts limit before (Ok (Some m)) after) t u a b
-told_next limit None after m t u a b none told = told
-told_next limit (Some end) after m t u a b none told = absurd (cc (none))
+pub told_next : {X : Type 0} (view : X → Message) (limit : Limits) (before after : Option ReadEnd) (x : X) (t u : Parts)
+    (a b : Option (List ℕ)) → is_some before ≡ false
+    → Told (IsOfParts view (reading_within limit) (Ok (Some x))) t u a b
+    → Told (ReadParts limit view before (Ok (Some x)) after) t u a b
+told_next view limit None after x t u a b none told = told
+told_next view limit (Some end) after x t u a b none told = absurd (cc (none))
 
 -- ---- how the reader failed
 

@@ -9,10 +9,8 @@ use Rattle.lsp_message.specs.Message.{Message}
 use Rattle.lsp_message.specs.Told.{Parts, IsOfParts, WritesParts, shows_end}
 use Rattle.std.specs.Io.KnownBytes.{Appends, Consumes}
 use Rattle.lsp_message.specs.Written.{IsFrameOf}
-use Rattle.lsp_message.specs.View.{message_view}
 use Rattle.lsp_message.specs.declared.frame.ReadFault.{ReadFault}
 use Rattle.lsp_message.specs.declared.frame.WriteFault.{WriteFault}
-use Rattle.lsp_message.specs.declared.msg.Message as msg
 use Rattle.lsp_message.specs.declared.frame.limits.Limits.{Limits}
 use Rattle.lsp_session.specs.Account.{Act, gave, took, lost, InOrder}
 use Rattle.lsp_session.specs.Event.{Event, message, closed, woken}
@@ -46,11 +44,11 @@ module _ (limit : Limits) where
 
   -- The parts that were taken in one read of a message, before and after which the messages had these ends. Once they
   -- have ended nothing is taken. For a private clause.
-  abbrev pub ReadParts : Option ReadEnd → Result (Option msg.Message) ReadFault → Option ReadEnd → Parts
-      → Type 0
-  ReadParts None (Ok None) new parts = (new ≡ Some End) × AreOf (Ok None) parts
-  ReadParts None outcome new parts = IsOfParts message_view (reading_within limit) outcome parts
-  ReadParts (Some end) outcome new parts = (outcome ≡ Ok None) × (new ≡ Some end) × (parts ≡ [])
+  abbrev pub ReadParts : {X : Type 0} → (X → Message) → Option ReadEnd → Result (Option X) ReadFault → Option ReadEnd
+      → Parts → Type 0
+  ReadParts view None (Ok None) new parts = (new ≡ Some End) × AreOf (Ok None) parts
+  ReadParts view None outcome new parts = IsOfParts view (reading_within limit) outcome parts
+  ReadParts view (Some end) outcome new parts = (outcome ≡ Ok None) × (new ≡ Some end) × (parts ≡ [])
 
   -- The parts that were taken for an event, before and after which the messages had these ends: those of a message, of
   -- a content part that was skipped, of the end of the input or of a fault. Once the messages have ended nothing is

@@ -5,19 +5,19 @@ use Rattle.std.specs.Prelude.{◌≡◌, ◌≢◌, ◌⊎◌, ◌≤◌, ◌++�
 use Rattle.lsp_message.specs.Frame.{Begins, reading_within}
 use Rattle.lsp_message.specs.Front.{front_of}
 use Rattle.lsp_message.specs.Message.{Message}
-use Rattle.lsp_message.specs.View.{message_view}
 use Rattle.lsp_message.specs.Written.{AreFramesOf}
 use Rattle.lsp_message.specs.declared.frame.Front.TheVariants.{More}
 use Rattle.lsp_message.specs.declared.frame.ReadFault.{ReadFault}
 use Rattle.lsp_message.specs.declared.frame.ReadFault.TheVariants.{Memory, HeaderTooLong, TooLong}
 use Rattle.lsp_message.specs.declared.frame.limits.Limits.{Limits}
-use Rattle.lsp_message.specs.declared.msg.Message as msg
 use Rattle.lsp_session.specs.Event.{Event, message, closed}
+use Rattle.lsp_session.specs.Incoming.{incoming_view}
 use Rattle.lsp_session.specs.Machine.{Advances, IsAwaited}
 use Rattle.lsp_session.specs.ProtocolError.{out_of_memory}
 use Rattle.lsp_session.specs.Session.{Behavior}
 use Rattle.lsp_session.specs.SessionOutcome.{served_by}
 use Rattle.lsp_session.specs.declared.loops.ReadEnd.{ReadEnd}
+use Rattle.lsp_session.specs.declared.loops.incoming.Incoming.{Incoming}
 use Rattle.lsp_session.specs.declared.loops.ReadEnd.TheVariants.{End as AtEnd, Fault as AtFault}
 use Rattle.lsp_session.specs.declared.loops.machine.Stage.{Stage}
 use Rattle.lsp_session.specs.declared.loops.machine.Stage.TheVariants.{Ended}
@@ -43,8 +43,8 @@ BeginsWithFault limits text fault = (more : List ℕ)
     → reading_within limits (text ++ more) ≡ record { outcome = Err fault; rest = more }
 
 -- the bytes are the frame of the message, and none is left; or they stay
-abbrev pub ReadsOne : Limits → List ℕ → Result (Option msg.Message) ReadFault → List ℕ → Type 0
-ReadsOne limits text (Ok (Some m)) left = IsFrameRead limits (message_view m) text × (left ≡ [])
+abbrev pub ReadsOne : Limits → List ℕ → Result (Option Incoming) ReadFault → List ℕ → Type 0
+ReadsOne limits text (Ok (Some m)) left = IsFrameRead limits (incoming_view m) text × (left ≡ [])
 ReadsOne limits text (Ok None) left = left ≡ text
 ReadsOne limits text (Err fault) left = (left ≡ text) × BeginsWithFault limits text fault
 

@@ -1,4 +1,5 @@
 -- What a receive gives, as plain data.
+use Rattle.lsp_calls.specs.Calls.{call_content_view}
 use Rattle.lsp_message.specs.Message.{Message}
 use Rattle.lsp_message.specs.View.{message_view}
 use Rattle.lsp_session.specs.declared.lifecycle.Arrival as arrival
@@ -22,5 +23,6 @@ event_view variant.Closed = closed
 
 abbrev pub arrival_view : arrival.Arrival → Event
 arrival_view (arrives.Message m) = message (message_view m)
+arrival_view (arrives.Call content) = message (call_content_view content)
 arrival_view arrives.Woken = woken
 arrival_view arrives.Closed = closed

@@ -15,6 +15,7 @@ pub mod FrameBoxes
 pub mod FramePlace
 pub mod HandlerService
 pub mod HandlerSession
+pub mod Incoming
 pub mod KeptAccount
 pub mod Lists
 pub mod Machine

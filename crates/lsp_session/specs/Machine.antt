@@ -1,5 +1,6 @@
 -- A session as a state machine without IO: the stage after one event, and the messages that are sent for the event.
 use Rattle.std.specs.Prelude.{◌≡◌, ◌⊎◌, ◌++◌, List, [], ◌∷◌, Option, Some, None, Result, Ok, Err}
+use Rattle.lsp_calls.specs.Calls.{call_content_view}
 use Rattle.lsp_message.specs.Id.{Id}
 use Rattle.lsp_message.specs.Message.{Message}
 use Rattle.lsp_message.specs.View.{message_view}
@@ -26,6 +27,7 @@ use Rattle.lsp_session.specs.declared.loops.session_outcome.SessionOutcome.{Sess
 -- the event as plain data
 abbrev pub came_view : came.Came → Event
 came_view (comes.Message m) = message (message_view m)
+came_view (comes.Call content) = message (call_content_view content)
 came_view comes.Woken = woken
 came_view comes.Timeout = timeout
 came_view comes.Closed = closed

@@ -1,8 +1,7 @@
 -- An inbox on a reader that may skip content parts which are no messages, as contracts see it.
 use Rattle.std.specs.Prelude.{◌≡◌, ◌⊎◌, ℕ, List, true, Option, Some, None, Result, Ok, Err}
 use Rattle.lsp_message.specs.declared.frame.ReadFault.{ReadFault}
-use Rattle.lsp_message.specs.View.{message_view}
-use Rattle.lsp_message.specs.declared.msg.Message as msg
+use Rattle.lsp_message.specs.Message.{Message}
 use Rattle.lsp_session.specs.Event.{Event, message, closed}
 use Rattle.lsp_session.specs.Streams.{Stream, StreamGives, Reads}
 use Rattle.lsp_session.specs.Passing.{ended_at_content, TolerantGives}
@@ -25,10 +24,10 @@ abbrev pub EndsAtContent : {R L : Type 0} → (L → ReadFault → Type 0) → T
 EndsAtContent ends old new = ended_at_content new.end ≡ true → (new.end ≡ old.end)
     ⊎ MayEnd ends old.policy.now new.end
 
--- what a read gives that did not fail
-abbrev pub next_view : Option msg.Message → Event
-next_view (Some m) = message (message_view m)
-next_view None = closed
+-- what a read gives that did not fail, if this says which message was read
+abbrev pub next_view : {X : Type 0} → (X → Message) → Option X → Event
+next_view view (Some x) = message (view x)
+next_view view None = closed
 
 module _ {R L : Type 0} (remaining : R → Option (List ℕ)) where
   -- what is seen of the inbox's reader
@@ -43,12 +42,12 @@ module _ {R L : Type 0} (remaining : R → Option (List ℕ)) where
 
   -- One read returns a message, or that the messages ended, or a fault that ends nothing yet. The policy allows nothing
   -- to be skipped. For a private clause.
-  abbrev pub ReadsNext : TolerantInbox R L → Result (Option msg.Message) ReadFault
+  abbrev pub ReadsNext : {X : Type 0} → (X → Message) → TolerantInbox R L → Result (Option X) ReadFault
       → TolerantInbox R L → Type 0
-  ReadsNext old (Ok next) new =
-      StreamGives old.limits (stream_of old) (next_view next) (stream_of new)
+  ReadsNext view old (Ok next) new =
+      StreamGives old.limits (stream_of old) (next_view view next) (stream_of new)
       × (new.policy.now ≡ old.policy.now) × KeepsLent old new
-  ReadsNext old (Err fault) new =
+  ReadsNext view old (Err fault) new =
       Reads old.limits (remaining old.reader.now) (Err fault) (remaining new.reader.now)
       × (old.end ≡ None) × (new.end ≡ None)
       × (new.policy.now ≡ old.policy.now) × KeepsLent old new

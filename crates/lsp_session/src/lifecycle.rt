@@ -25,6 +25,7 @@ ghost use Rattle.lsp_message.specs.View.{message_view};
 ghost use Rattle.lsp_session.specs.Boxes.{handed_back, WaitsFor};
 ghost use Rattle.lsp_session.specs.Event.{arrival_view, event_view, timeout};
 
+use lsp_calls::{CallContent, CallReader};
 use lsp_message::{Message, RequestId, Response, ResultText};
 use serde_json::Value;
 
@@ -61,6 +62,9 @@ pub enum Event {
 pub enum Arrival {
     /// A message arrived.
     Message(Message),
+    /// A request or a notification arrived, and this is its content part. Only `WakingInbox::receive_call_or_woken`
+    /// returns it.
+    Call(CallContent),
     /// Something that the service waits for is ready.
     Woken,
     /// No more messages can arrive.
@@ -109,10 +113,22 @@ pub trait WakingInbox: Inbox {
 
     /// Waits for a message or a wake-up, without limit. A session calls it from `initialized` up to `shutdown` and
     /// nowhere else, so no service is woken before or after. The contract of `serve_transport`, a session on one value,
-    /// says that the session calls it there, and not `receive`.
+    /// says that the session calls it there, or `receive_call_or_woken`, and not `receive`.
     fn receive_or_woken(&mut self) -> Arrival
         ensures receives { WaitsFor Self.receives self.old (arrival_view result) self.new }
         ensures listens { listens self.old (arrival_view result) self.new };
+
+    /// Waits as `receive_or_woken` does, but may return a request or a notification as its content part
+    /// (`Arrival::Call`), which `calls` takes. A session whose service reads calls (`Service::reads_calls`) calls this in
+    /// place of `receive_or_woken`, with the same `calls` each time. An inbox that has no content parts keeps this body,
+    /// which returns messages.
+    fn receive_call_or_woken(&mut self, calls: &mut CallReader) -> Arrival
+        ensures receives { WaitsFor Self.receives self.old (arrival_view result) self.new }
+        ensures listens { listens self.old (arrival_view result) self.new }
+    {
+        let _ = calls;
+        self.receive_or_woken()
+    }
 }
 
 /// Why an outbox did not take a message. Each variant returns the message.

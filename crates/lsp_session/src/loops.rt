@@ -21,6 +21,7 @@ mod frame_outbox;
 mod handler;
 mod handler_application;
 mod handler_service;
+mod incoming;
 mod machine;
 mod pending_output;
 mod service;

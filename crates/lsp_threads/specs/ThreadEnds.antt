@@ -1,17 +1,23 @@
 -- The caller's ends of a session in threads as one value, as contracts see it: the inbox over content parts, and the
 -- outbox, of which nothing is held when the inbox waits.
 use Rattle.std.specs.Prelude.{◌≡◌, [], ◌∷◌, None, Some, Result, Ok, Err}
+use Rattle.lsp_calls.specs.declared.call_text.CallContent.{CallContent}
 use Rattle.lsp_message.specs.declared.frame.ReadFault.{ReadFault}
 use Rattle.lsp_relay.specs.Relay.{IsLearned, Source}
 use Rattle.lsp_session.specs.Boxes.{Sends}
 use Rattle.lsp_session.specs.Event.{Event, arrival_view}
 use Rattle.lsp_session.specs.Session.{SessionPart}
 use Rattle.lsp_session.specs.declared.lifecycle.Arrival.{Arrival}
+use Rattle.lsp_session.specs.declared.lifecycle.Arrival.TheVariants as arrives
 use Rattle.lsp_threads.specs.Contents.{ComesNext, ContentsGive, ContentsListen, limits_of, MaySend, parts_of, Receiving}
 use Rattle.lsp_threads.specs.Order.{MarksAnswer}
 use Rattle.lsp_threads.specs.Replies.{RepliesSend}
 use Rattle.lsp_threads.specs.Writes.{AddsMark, KeepsMarks}
 use Rattle.lsp_threads.specs.declared.thread_ends.ThreadEnds.{ThreadEnds}
+
+-- For a private clause: what arrived is no content part.
+abbrev pub IsNoCall : Result Arrival ReadFault → Type 0
+IsNoCall arrived = (content : CallContent) → arrived ≡ Ok (arrives.Call content) → ⊥
 
 module _ {R L : Type 0} where
   -- what is seen of the inbox, and its policy

@@ -7,12 +7,13 @@ ghost use Rattle.lsp_session.specs.SessionLaws.{Both};
 ghost use Rattle.lsp_session.specs.SessionRun.{Runs};
 ghost use Rattle.lsp_threads.specs.Contents.{ContentsGive};
 ghost use Rattle.lsp_threads.specs.Replies.{RepliesSend};
-ghost use Rattle.lsp_threads.specs.ThreadEnds.{EndsInOrder, EndsListen, GivesNext, IsFresh, IsReadyToWait, KeepsLent};
+ghost use Rattle.lsp_threads.specs.ThreadEnds.{EndsInOrder, EndsListen, GivesNext, IsFresh, IsNoCall, IsReadyToWait, KeepsLent};
 ghost use Rattle.lsp_threads.specs.ThreadEnds.{ReadsNext, seen_of};
 ghost use Rattle.lsp_threads.specs.Writes.{KeepsMarks};
 
 use crate::content_parts::{ContentParts, Next};
 use crate::reply_outbox::ReplyOutbox;
+use lsp_calls::CallReader;
 use lsp_message::{Message, ReadFault, RequestId, ResultText};
 use lsp_session::{
     Application, Arrival, BadContentPolicy, Event, Inbox, Outbox, ReadEnd, SendFault,
@@ -25,9 +26,10 @@ use std::sync::Wait;
 /// content part that is no message and was not skipped, and once End was taken. It has no timeouts.
 ///
 /// `receive_or_woken` returns each wake-up of the relay. It also asks the policy at a content part that is no message
-/// (`is_bad_content`). Then it skips the part and returns `Arrival::Woken`, or ends the messages. In the other calls
-/// there is no wake-up: those of the relay are ignored, and such a part ends the messages. Any other fault ends the
-/// messages in each call.
+/// (`is_bad_content`). Then it skips the part and returns `Arrival::Woken`, or ends the messages.
+/// `receive_call_or_woken` does the same, and returns the content part of a request or a notification as
+/// `Arrival::Call`. In the other calls there is no wake-up: those of the relay are ignored, and such a part ends the
+/// messages. Any other fault ends the messages in each call.
 ///
 /// The messages that are sent are gathered while many content parts are available, and all of them are passed on before
 /// a wait.
@@ -88,6 +90,30 @@ impl<'a, R: Wait + Copy + Drop, L: BadContentPolicy> ThreadEnds<'a, R, L> {
     /// messages yet.
     fn read_next(&mut self) -> Result<Arrival, ReadFault>
         requires { IsReadyToWait self.old }
+        ensures reads { ReadsNext self.old result self.new }
+        ensures plain { IsNoCall result }
+    {
+        if self.end.is_some() || self.parts.is_drained() {
+            return Ok(Arrival::Closed);
+        }
+        match self.parts.take_next() {
+            Next::Content(content) => {
+                let message = Message::from_content(self.alloc, &content)?;
+                if is_exit(&message) {
+                    self.end = Some(ReadEnd::Exit);
+                } else {
+                    self.parts.go_on();
+                }
+                Ok(Arrival::Message(message))
+            }
+            Next::Wake => Ok(Arrival::Woken),
+            Next::End => Ok(Arrival::Closed),
+        }
+    }
+
+    /// Does what `read_next` does, but makes no tree of a call.
+    fn read_next_or_call(&mut self, calls: &mut CallReader) -> Result<Arrival, ReadFault>
+        requires { IsReadyToWait self.old }
         ensures { ReadsNext self.old result self.new }
     {
         if self.end.is_some() || self.parts.is_drained() {
@@ -95,6 +121,13 @@ impl<'a, R: Wait + Copy + Drop, L: BadContentPolicy> ThreadEnds<'a, R, L> {
         }
         match self.parts.take_next() {
             Next::Content(content) => {
+                let content = match calls.take(content) {
+                    Ok(call) => {
+                        self.parts.go_on();
+                        return Ok(Arrival::Call(call));
+                    }
+                    Err(content) => content,
+                };
                 let message = Message::from_content(self.alloc, &content)?;
                 if is_exit(&message) {
                     self.end = Some(ReadEnd::Exit);
@@ -128,6 +161,25 @@ impl<'a, R: Wait + Copy + Drop, L: BadContentPolicy> ThreadEnds<'a, R, L> {
         }
     }
 
+    /// Does what `next_arrival` does, but makes no tree of a call.
+    fn next_call_or_arrival(&mut self, calls: &mut CallReader) -> Arrival
+        requires { IsReadyToWait self.old }
+        ensures gives { GivesNext L.passes self.old (arrival_view result) self.new }
+        ensures listens { EndsListen L.ends self.old (arrival_view result) self.new }
+    {
+        match self.read_next_or_call(calls) {
+            Ok(arrival) => arrival,
+            Err(fault) => {
+                if is_bad_content(fault) && self.policy.skips(fault) {
+                    self.parts.go_on();
+                    return Arrival::Woken;
+                }
+                self.end = Some(ReadEnd::Fault(fault));
+                Arrival::Closed
+            }
+        }
+    }
+
     /// Returns the message of the next content part, and ignores wake-ups of the relay.
     fn next_event(&mut self) -> Event
         requires { IsReadyToWait self.old }
@@ -137,6 +189,7 @@ impl<'a, R: Wait + Copy + Drop, L: BadContentPolicy> ThreadEnds<'a, R, L> {
         for _ in rt.forever() {
             match self.read_next() {
                 Ok(Arrival::Message(message)) => return Event::Message(message),
+                Ok(Arrival::Call(_)) => unreachable!(),
                 Ok(Arrival::Woken) => {}
                 Ok(Arrival::Closed) => return Event::Closed,
                 Err(fault) => {
@@ -176,6 +229,12 @@ impl<'a, R: Wait + Copy + Drop, L: BadContentPolicy> WakingInbox for ThreadEnds<
     fn receive_or_woken(&mut self) -> Arrival {
         self.make_ready();
         self.next_arrival()
+    }
+
+    #[tactic(auto, using(crate::proofs::ThreadEnds::ready_waits))]
+    fn receive_call_or_woken(&mut self, calls: &mut CallReader) -> Arrival {
+        self.make_ready();
+        self.next_call_or_arrival(calls)
     }
 }
 

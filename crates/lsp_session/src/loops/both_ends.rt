@@ -10,6 +10,7 @@ use crate::lifecycle::{Arrival, Event, Inbox, Outbox, SendFault, TextOutbox, Wak
 use crate::loops::service::{MessagesAlone, Service};
 use crate::loops::session_outcome::SessionOutcome;
 use crate::loops::transport::{serve_by, serve_transport};
+use lsp_calls::CallReader;
 use lsp_message::{Message, RequestId, ResultText};
 use std::alloc::Global;
 
@@ -41,6 +42,10 @@ impl<'a, I: WakingInbox, O: Outbox> WakingInbox for BothEnds<'a, I, O> {
 
     fn receive_or_woken(&mut self) -> Arrival {
         self.inbox.receive_or_woken()
+    }
+
+    fn receive_call_or_woken(&mut self, calls: &mut CallReader) -> Arrival {
+        self.inbox.receive_call_or_woken(calls)
     }
 }
 

@@ -17,6 +17,7 @@ use crate::loops::machine::{Awaits, Came, SessionCore};
 use crate::loops::pending_output::PendingOutput;
 use crate::loops::service::Service;
 use crate::loops::stream_session::{SessionFault, session_answer};
+use lsp_calls::CallReader;
 use lsp_message::{Limits, ReadFault};
 use std::alloc::Global;
 
@@ -27,6 +28,9 @@ use std::alloc::Global;
 /// At each message the session does what `serve_transport` describes. It holds the bytes of at most one frame, within
 /// its `Limits`. While more than `most_pending` bytes are to be sent, it takes no input. So it holds at most these
 /// bytes, and the output of one more event.
+///
+/// If the service reads calls (`Service::reads_calls`), the session copies the content part of each message from
+/// `initialized` up to `shutdown`, and makes no tree of a call.
 ///
 /// At bytes that are no message the session ends, as one with the policy `EndOnBadContent` does. `into_parts` then returns
 /// `SessionFault::Read`, and the bytes stay unread. If memory runs out, the session ends, and `into_parts` returns
@@ -59,6 +63,7 @@ pub struct ByteSession<S> {
     input: FrameInput,
     output: PendingOutput,
     end: Option<ReadEnd>,
+    calls: CallReader,
 }
 
 impl<S: Service> ByteSession<S> {
@@ -80,6 +85,7 @@ impl<S: Service> ByteSession<S> {
             input: FrameInput::new(alloc, limits),
             output: PendingOutput::new(alloc),
             end: None,
+            calls: CallReader::new(alloc),
         }
     }
 
@@ -140,9 +146,10 @@ impl<S: Service> ByteSession<S> {
         ensures known { KnowsEnd self.old → KnowsEnd self.new }
         ensures kept { KeepsBounds self.old self.new }
     {
-        let (count, read) = self.input.receive(bytes);
+        let reads_calls = self.core.awaits() == Awaits::MessageOrWake && self.service.reads_calls();
+        let (count, read) = self.input.receive(bytes, &mut self.calls, reads_calls);
         match read {
-            Ok(Some(message)) => self.come(Came::Message(message)),
+            Ok(Some(came)) => self.come(came.into_came()),
             Ok(None) => {}
             Err(fault) => self.fail(fault),
         }

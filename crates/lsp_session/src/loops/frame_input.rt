@@ -1,6 +1,5 @@
 // The frame of one message, gathered from bytes that come in pieces.
 ghost use Rattle.std.specs.Prelude.{◌≡◌, ◌≢◌, ◌⊎◌, ◌<◌, ◌≤◌, ◌+◌, ◌++◌, [], ℕ, Option, length, drop as drop_front, take, Ok, Some, None, IfOk, IfErr, IsTrue, MatchOption};
-ghost use Rattle.lsp_message.specs.View.{message_view};
 ghost use Rattle.lsp_session.specs.ByteSession.{AwaitsMore, IsEndOf, ReadsOne};
 ghost use Rattle.lsp_session.specs.FramePlace.{AreFields, HasNoFeed, InContent, InHeader, IsFaultOf, IsLine, IsPlaceOf};
 ghost use Rattle.lsp_message.specs.declared.frame.ReadFault.{ReadFault};
@@ -9,7 +8,9 @@ ghost use Rattle.lsp_session.specs.declared.loops.ReadEnd.TheVariants.{End as At
 ghost use Rattle.lsp_session.specs.declared.loops.frame_input.Place.TheVariants.{Content, Fault, Header};
 
 use crate::loops::ReadEnd;
-use lsp_message::{HeaderLine, Limits, Message, ReadFault, header_line};
+use crate::loops::incoming::Incoming;
+use lsp_calls::CallReader;
+use lsp_message::{HeaderLine, Limits, ReadFault, header_line};
 use memchr::memchr;
 use std::alloc::Global;
 
@@ -54,11 +55,17 @@ impl FrameInput {
     }
 
     /// Adds the first bytes of a piece, up to the end of a line of the header part or of the content part. Returns how
-    /// many these are, and the message if it is whole with them. The bytes of a message are dropped.
+    /// many these are, and the message if it is whole with them. The bytes of a message are dropped. If calls are read,
+    /// no tree is made of a call.
     ///
     /// After a fault of the bytes they stay, and each further call returns the fault again and adds none. They are then
     /// the bytes that a reader takes to find the fault. If memory runs out, the fault is `Memory`, and nothing was added.
-    pub(crate) fn receive(&mut self, piece: &[u8]) -> (usize, Result<Option<Message>, ReadFault>)
+    pub(crate) fn receive(
+        &mut self,
+        piece: &[u8],
+        calls: &mut CallReader,
+        reads_calls: bool,
+    ) -> (usize, Result<Option<Incoming>, ReadFault>)
         ensures within { result.0 ≤ length piece.now }
         ensures some { IfOk result.1 (λ _. 0 < length piece.now → 0 < result.0) }
         ensures read { ReadsOne self.old.limits (self.old.bytes.items ++ take result.0 piece.now) result.1 self.new.bytes.items }
@@ -67,7 +74,9 @@ impl FrameInput {
     {
         match self.place {
             Place::Header(line, given) => self.receive_header(line, given, piece),
-            Place::Content(start, size) => self.receive_content(start, size, piece),
+            Place::Content(start, size) => {
+                self.receive_content(start, size, piece, calls, reads_calls)
+            }
             Place::Fault(fault) => (0, Err(fault)),
         }
     }
@@ -78,7 +87,7 @@ impl FrameInput {
         line: usize,
         given: Option<u64>,
         piece: &[u8],
-    ) -> (usize, Result<Option<Message>, ReadFault>)
+    ) -> (usize, Result<Option<Incoming>, ReadFault>)
         requires here { self.old.place ≡ Header line given }
         ensures within { result.0 ≤ length piece.now }
         ensures some { IfOk result.1 (λ _. 0 < length piece.now → 0 < result.0) }
@@ -129,7 +138,9 @@ impl FrameInput {
         start: usize,
         size: usize,
         piece: &[u8],
-    ) -> (usize, Result<Option<Message>, ReadFault>)
+        calls: &mut CallReader,
+        reads_calls: bool,
+    ) -> (usize, Result<Option<Incoming>, ReadFault>)
         requires here { self.old.place ≡ Content start size }
         ensures within { result.0 ≤ length piece.now }
         ensures some { IfOk result.1 (λ _. 0 < length piece.now → 0 < result.0) }
@@ -147,7 +158,7 @@ impl FrameInput {
             return (count, Ok(None));
         }
         let bytes = self.bytes.as_slice();
-        match Message::from_content(self.alloc, &bytes[start..]) {
+        match Incoming::in_bytes(self.alloc, calls, reads_calls, &bytes[start..]) {
             Ok(message) => {
                 self.bytes.clear();
                 self.place = Place::Header(0, None);

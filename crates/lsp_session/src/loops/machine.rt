@@ -1,11 +1,12 @@
 // A session of a server as a state machine without IO (LSP 3.17, "Server lifecycle").
-ghost use Rattle.std.specs.Prelude.{◌≡◌, ◌⊎◌, ◌&&◌, Err, None, IsTrue};
+ghost use Rattle.std.specs.Prelude.{◌≡◌, ◌⊎◌, ◌&&◌, true, Err, None, IfOk, IsTrue, MatchOption};
+ghost use Rattle.lsp_calls.specs.Calls.{call_content_view, call_ref_view};
 ghost use Rattle.lsp_message.specs.Message.{response};
 ghost use Rattle.lsp_message.specs.View.{error_view, message_view, request_view};
 ghost use Rattle.lsp_session.specs.Event.{arrival_view, event_view, message as message_event, woken};
 ghost use Rattle.lsp_session.specs.Machine.{came_view, turn_sends, awaited_in, outcome_of, reply_of, IsAwaited, Advances, Moves};
 ghost use Rattle.lsp_session.specs.ProtocolError.{expected_initialize, out_of_memory, Shows};
-ghost use Rattle.lsp_session.specs.Session.{is_reply};
+ghost use Rattle.lsp_session.specs.Session.{is_reply, is_served as served_spec};
 ghost use Rattle.lsp_session.specs.SessionOutcome.{served_by};
 ghost use Rattle.lsp_session.specs.Start.{fault_of_refusal};
 ghost use Rattle.lsp_session.specs.declared.loops.machine.Stage.TheVariants as stage;
@@ -18,8 +19,9 @@ use crate::lifecycle::{
 };
 use crate::loops::service::Service;
 use crate::loops::session_outcome::{SessionOutcome, StopReason};
+use lsp_calls::{CallContent, CallReader, CallRef};
 use lsp_message::{Message, Request, RequestId, Response, ResponseError};
-use std::alloc::Global;
+use std::alloc::{AllocError, Global};
 use std::mem;
 
 /// The stage that a session has reached.
@@ -42,6 +44,9 @@ pub enum Stage {
 pub enum Came {
     /// A message arrived.
     Message(Message),
+    /// A request or a notification arrived, and this is its content part. The session makes a message of it, unless the
+    /// service reads calls (`Service::call`).
+    Call(CallContent),
     /// Something that the service waits for is ready.
     Woken,
     /// No message arrived within 30 seconds, while the session waited for `exit`.
@@ -62,12 +67,13 @@ impl Came {
         }
     }
 
-    /// Makes a session's event from the result of `WakingInbox::receive_or_woken`.
+    /// Makes a session's event from the result of `WakingInbox::receive_or_woken` or `receive_call_or_woken`.
     pub fn from_arrival(arrival: Arrival) -> Came
         ensures { came_view result ≡ arrival_view arrival }
     {
         match arrival {
             Arrival::Message(message) => Came::Message(message),
+            Arrival::Call(content) => Came::Call(content),
             Arrival::Woken => Came::Woken,
             Arrival::Closed => Came::Closed,
         }
@@ -146,6 +152,7 @@ impl<T> Moved<T> {
 pub struct SessionCore {
     alloc: Global,
     stage: Stage,
+    calls: CallReader,
 }
 
 impl SessionCore {
@@ -157,6 +164,7 @@ impl SessionCore {
         SessionCore {
             alloc,
             stage: Stage::Starting,
+            calls: CallReader::new(alloc),
         }
     }
 
@@ -179,7 +187,7 @@ impl SessionCore {
         ensures drops { IsAwaited self.now.stage (came_view came.now) → IsTrue result }
     {
         match self.awaits() {
-            Awaits::Message => matches!(came, Came::Message(_) | Came::Closed),
+            Awaits::Message => matches!(came, Came::Message(_) | Came::Call(_) | Came::Closed),
             Awaits::MessageOrWake => !matches!(came, Came::Timeout),
             Awaits::Exit => !matches!(came, Came::Woken),
             Awaits::Nothing => false,
@@ -190,6 +198,10 @@ impl SessionCore {
     ///
     /// The session goes on or ends as the tables of a session say (LSP 3.17, "Server lifecycle"). If an allocation
     /// fails, nothing is sent, and the session ends with `out of memory`.
+    ///
+    /// A call is a message too. From `initialized` up to `shutdown`, a service that reads calls gets it by
+    /// `Service::call`, unless it is the request `shutdown` or the notification `exit`. Otherwise the session makes a
+    /// message of it.
     pub fn advance<S: Service>(&mut self, service: &mut S, came: Came) -> Turn<S::Output>
         requires { IsAwaited self.old.stage (came_view came) }
         ensures advances { Advances S.behavior (self.old.stage, service.old) (came_view came) (turn_sends S.Output.shows result)
@@ -197,7 +209,7 @@ impl SessionCore {
         ensures reply { result.reply ≡ reply_of self.new.stage self.old.stage }
     {
         let stage = mem::replace(&mut self.stage, Stage::Starting);
-        let moved = match move_on(self.alloc, stage, service, came) {
+        let moved = match move_on(self.alloc, &mut self.calls, stage, service, came) {
             Ok(moved) => moved,
             Err(error) => Moved::silent(Stage::Ended(SessionOutcome::failed(error))),
         };
@@ -223,7 +235,9 @@ impl SessionCore {
     pub fn into_outcome(self) -> SessionOutcome
         ensures { result ≡ outcome_of self.stage }
     {
-        match self.stage {
+        let SessionCore { stage, calls, .. } = self;
+        drop(calls);
+        match stage {
             Stage::Starting | Stage::Replied => SessionOutcome::failed(
                 ProtocolError::disconnected(),
             ),
@@ -237,6 +251,7 @@ impl SessionCore {
 /// Takes an event in this stage.
 fn move_on<S: Service>(
     alloc: Global,
+    calls: &mut CallReader,
     stage: Stage,
     service: &mut S,
     came: Came,
@@ -245,13 +260,8 @@ fn move_on<S: Service>(
     ensures { Moves S.behavior S.Output.shows stage service.old (came_view came) result service.new }
 {
     match came {
-        Came::Message(message) => match stage {
-            Stage::Starting => start(alloc, service, message),
-            Stage::Replied => open(alloc, service, message),
-            Stage::Serving => serve_one(service, message),
-            Stage::Asked(id) => leave(alloc, service, id, message),
-            Stage::Ended(_) => unreachable!(),
-        },
+        Came::Message(message) => take_message(alloc, stage, service, message),
+        Came::Call(content) => take_call(alloc, calls, stage, service, content),
         Came::Woken => wake(service),
         Came::Timeout => Err(ProtocolError::shutdown_timeout()),
         Came::Closed => match stage {
@@ -262,6 +272,99 @@ fn move_on<S: Service>(
             Stage::Asked(_) => Err(ProtocolError::shutdown_disconnected()),
             Stage::Ended(_) => unreachable!(),
         },
+    }
+}
+
+/// Takes a message in this stage.
+fn take_message<S: Service>(
+    alloc: Global,
+    stage: Stage,
+    service: &mut S,
+    message: Message,
+) -> Result<Moved<S::Output>, ProtocolError>
+    requires { IsAwaited stage (message_event (message_view message)) }
+    ensures { Moves S.behavior S.Output.shows stage service.old (message_event (message_view message)) result service.new }
+{
+    match stage {
+        Stage::Starting => start(alloc, service, message),
+        Stage::Replied => open(alloc, service, message),
+        Stage::Serving => serve_one(service, message),
+        Stage::Asked(id) => leave(alloc, service, id, message),
+        Stage::Ended(_) => unreachable!(),
+    }
+}
+
+/// Takes a call in this stage. A service that reads calls is asked by `call` from `initialized` up to `shutdown`.
+fn take_call<S: Service>(
+    alloc: Global,
+    calls: &mut CallReader,
+    stage: Stage,
+    service: &mut S,
+    content: CallContent,
+) -> Result<Moved<S::Output>, ProtocolError>
+    requires { IsAwaited stage (message_event (call_content_view content)) }
+    ensures { Moves S.behavior S.Output.shows stage service.old (message_event (call_content_view content)) result service.new }
+{
+    match stage {
+        Stage::Serving => serve_call(alloc, calls, service, content),
+        stage => match content.into_message(alloc) {
+            Ok(message) => take_message(alloc, stage, service, message),
+            Err(_) => Err(ProtocolError::out_of_memory()),
+        },
+    }
+}
+
+/// Takes a call from `initialized` up to `shutdown`.
+fn serve_call<S: Service>(
+    alloc: Global,
+    calls: &mut CallReader,
+    service: &mut S,
+    content: CallContent,
+) -> Result<Moved<S::Output>, ProtocolError>
+    ensures { Moves S.behavior S.Output.shows stage.Serving service.old (message_event (call_content_view content)) result service.new }
+{
+    match answer_call(calls, service, &content)? {
+        Some(output) => {
+            drop(content);
+            Ok(Moved::sending(Stage::Serving, TurnOutput::Given(output)))
+        }
+        None => serve_one(service, content.into_message(alloc)?),
+    }
+}
+
+/// Returns all messages to send for a call, if the service reads calls and answers this one by `call`. If the result is
+/// `None`, nothing has changed.
+fn answer_call<S: Service>(
+    calls: &mut CallReader,
+    service: &mut S,
+    content: &CallContent,
+) -> Result<Option<S::Output>, AllocError>
+    ensures { IfOk result (λ answer. MatchOption answer (service.new ≡ service.old)
+        (λ output. (served_spec (call_content_view content.now) ≡ true)
+        × S.behavior.outputs service.old (call_content_view content.now) (S.Output.shows output) service.new)) }
+{
+    if !service.reads_calls() {
+        return Ok(None);
+    }
+    let text = match calls.read(content) {
+        Some(text) => text,
+        None => return Ok(None),
+    };
+    let call = text.call();
+    if is_served(&call) {
+        service.call(&call)
+    } else {
+        Ok(None)
+    }
+}
+
+/// Returns whether the call is neither the request `shutdown` nor the notification `exit`.
+fn is_served(call: &CallRef<'_>) -> bool
+    ensures { result ≡ served_spec (call_ref_view call.now) }
+{
+    match call {
+        CallRef::Request(request) => request.method != "shutdown",
+        CallRef::Notification(notification) => notification.method != "exit",
     }
 }
 

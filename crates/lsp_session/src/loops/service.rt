@@ -1,12 +1,14 @@
 // What a session runs.
 ghost use Rattle.serde_json.specs.View.{view};
-ghost use Rattle.std.specs.Prelude.{◌≡◌, ◌∷◌, [], IfOk, OnErr};
+ghost use Rattle.std.specs.Prelude.{◌≡◌, ◌∷◌, [], IfOk, MatchOption, OnErr};
+ghost use Rattle.lsp_calls.specs.Calls.{call_ref_view};
 ghost use Rattle.lsp_message.specs.View.{message_view, request_view, notification_view, response_view, outcome_view};
 ghost use Rattle.lsp_session.specs.Outputs.{SendsAll};
 ghost use Rattle.lsp_session.specs.OutputView.{output_view, reply_view, sent_view, to_send_view};
 
 use crate::error::ProtocolError;
 use crate::lifecycle::{Outbox, SendFault, TextOutbox};
+use lsp_calls::CallRef;
 use lsp_message::{Message, Notification, Request, RequestId, Response, ResponseError, ResultText};
 use serde_json::Value;
 use std::alloc::AllocError;
@@ -157,6 +159,24 @@ pub trait Service {
         ensures { IfOk result (λ output.
             behavior.outputs self.old (notification_view notification) (Self.Output.shows output)
             self.new) };
+
+    /// Returns whether the service reads calls: requests and notifications whose params are read where they stand
+    /// (`call`). If it does not, the session reads each message into a tree at once.
+    fn reads_calls(&self) -> bool {
+        false
+    }
+
+    /// Returns all messages to send for a request or a notification whose params are read where they stand, in order.
+    /// Returns `None` to get the same message by `request` or `notification`. Then nothing has changed.
+    ///
+    /// The session calls this only if `reads_calls` returns true. A message of which the inbox made a tree still comes
+    /// by `request` or `notification`.
+    fn call(&mut self, call: &CallRef<'_>) -> Result<Option<Self::Output>, AllocError>
+        ensures { IfOk result (λ answer. MatchOption answer (self.new ≡ self.old)
+            (λ output. behavior.outputs self.old (call_ref_view call.now) (Self.Output.shows output) self.new)) }
+    {
+        Ok(None)
+    }
 
     /// Returns all messages to send for a response, in order.
     fn response(&mut self, response: Response) -> Result<Self::Output, AllocError>

@@ -12,6 +12,7 @@ use crate::loops::{
     Application, BadContentPolicy, FrameOutbox, ReadEnd, SessionEnd, SessionFault, SessionOutcome,
     TolerantInbox, session_answer,
 };
+use lsp_calls::CallReader;
 use lsp_message::{ByteTrace, Limits, Message, RequestId, ResultText, WriteFault};
 use std::alloc::Global;
 use std::io::{BufRead, Write};
@@ -164,6 +165,28 @@ impl<'a, R: BufRead, W: Write, L: BadContentPolicy> StreamTransport<'a, R, W, L>
         self.transcript.add(noted);
         arrival
     }
+
+    /// Does what `next_arrival` does, but makes no tree of a call.
+    #[tactic(auto, using(crate::proofs::Noting::adds_reads))]
+    fn next_call_or_arrival(&mut self, calls: &mut CallReader) -> Arrival
+        ensures gives { StreamTransportGives R.remaining L.passes self.old (arrival_view result)
+            self.new }
+        ensures reads_on { StreamTransportListens L.ends self.old (arrival_view result) self.new }
+    {
+        let mut taken = ByteTrace::new();
+        let mut inbox = TolerantInbox::resumed(
+            self.alloc,
+            &mut *self.reader,
+            &mut *self.policy,
+            self.limits,
+            self.end,
+        );
+        let arrival = inbox.next_call_or_arrival(calls, &mut taken);
+        self.end = inbox.end();
+        let noted = Noted::Came(Snapshot::of(&arrival), taken);
+        self.transcript.add(noted);
+        arrival
+    }
 }
 
 impl<'a, R: BufRead, W: Write, L: BadContentPolicy> Inbox for StreamTransport<'a, R, W, L> {
@@ -191,6 +214,11 @@ impl<'a, R: BufRead, W: Write, L: BadContentPolicy> WakingInbox for StreamTransp
     #[tactic(auto, using(crate::proofs::Waiting::waits_none))]
     fn receive_or_woken(&mut self) -> Arrival {
         self.next_arrival()
+    }
+
+    #[tactic(auto, using(crate::proofs::Waiting::waits_none))]
+    fn receive_call_or_woken(&mut self, calls: &mut CallReader) -> Arrival {
+        self.next_call_or_arrival(calls)
     }
 }
 

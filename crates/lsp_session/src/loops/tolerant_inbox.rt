@@ -1,14 +1,18 @@
 // An inbox that reads messages, and asks a policy whether to read on after a content part that is none.
 ghost use Rattle.std.specs.Prelude.{◌≡◌, None};
+ghost use Rattle.lsp_message.specs.View.{message_view};
 ghost use Rattle.lsp_message.specs.Told.{Told};
 ghost use Rattle.lsp_session.specs.ActBytes.{ReadParts, TakenFor};
 ghost use Rattle.lsp_session.specs.Event.{arrival_view, event_view};
+ghost use Rattle.lsp_session.specs.Incoming.{incoming_view};
 ghost use Rattle.lsp_session.specs.Passing.{is_bad_content as is_of_content_spec};
 ghost use Rattle.lsp_session.specs.PassingBoxes.{EndsAtContent, NeverEndsAtContent, ReadsNext, TolerantInboxGives};
 ghost use Rattle.lsp_session.specs.SessionFailures.{FailsInRead, FailsInWait};
 
 use crate::lifecycle::{Arrival, Event, Inbox, WakingInbox, is_exit};
+use crate::loops::incoming::Incoming;
 use crate::loops::{BadContentPolicy, ReadEnd};
+use lsp_calls::CallReader;
 use lsp_message::{ByteTrace, Limits, Message, ReadFault};
 use std::alloc::Global;
 use std::io::BufRead;
@@ -90,9 +94,9 @@ impl<'a, R: BufRead, L: BadContentPolicy> TolerantInbox<'a, R, L> {
     /// Reads a message, or `None` if the messages ended. A fault has not ended the messages yet.
     #[tactic(auto, using(crate::proofs::ToldEvents::fails_at_none, crate::proofs::ToldEvents::fails_at_next, crate::proofs::ToldEvents::fails_at_fault, crate::proofs::ToldEvents::unended))]
     fn read_next(&mut self, taken: &mut ByteTrace) -> Result<Option<Message>, ReadFault>
-        ensures read { ReadsNext R.remaining self.old result self.new }
+        ensures read { ReadsNext R.remaining message_view self.old result self.new }
         ensures reads_on { NeverEndsAtContent self.old self.new }
-        ensures told { Told (ReadParts self.old.limits self.old.end result self.new.end) taken.old.parts
+        ensures told { Told (ReadParts self.old.limits message_view self.old.end result self.new.end) taken.old.parts
             taken.new.parts (R.remaining self.old.reader.now) (R.remaining self.new.reader.now) }
         ensures failed { FailsInRead self.old.end result self.new.end taken.old taken.new }
     {
@@ -127,6 +131,64 @@ impl<'a, R: BufRead, L: BadContentPolicy> TolerantInbox<'a, R, L> {
     {
         match self.read_next(taken) {
             Ok(Some(message)) => Arrival::Message(message),
+            Ok(None) => Arrival::Closed,
+            Err(fault) => {
+                if is_bad_content(fault) && self.policy.skips(fault) {
+                    return Arrival::Woken;
+                }
+                self.end = Some(ReadEnd::Fault(fault));
+                Arrival::Closed
+            }
+        }
+    }
+
+    /// Does what `read_next` does, but makes no tree of a call.
+    #[tactic(auto, using(crate::proofs::ToldEvents::fails_at_none, crate::proofs::ToldEvents::fails_at_next, crate::proofs::ToldEvents::fails_at_fault, crate::proofs::ToldEvents::unended))]
+    fn read_incoming(
+        &mut self,
+        calls: &mut CallReader,
+        taken: &mut ByteTrace,
+    ) -> Result<Option<Incoming>, ReadFault>
+        ensures read { ReadsNext R.remaining incoming_view self.old result self.new }
+        ensures reads_on { NeverEndsAtContent self.old self.new }
+        ensures told { Told (ReadParts self.old.limits incoming_view self.old.end result self.new.end) taken.old.parts
+            taken.new.parts (R.remaining self.old.reader.now) (R.remaining self.new.reader.now) }
+        ensures failed { FailsInRead self.old.end result self.new.end taken.old taken.new }
+    {
+        if self.end.is_some() {
+            return Ok(None);
+        }
+        match Incoming::read_traced(self.alloc, self.reader, self.limits, calls, taken)? {
+            Some(came) => {
+                if came.is_exit() {
+                    self.end = Some(ReadEnd::Exit);
+                }
+                Ok(Some(came))
+            }
+            None => {
+                self.end = Some(ReadEnd::End);
+                Ok(None)
+            }
+        }
+    }
+
+    /// Does what `next_arrival` does, but makes no tree of a call.
+    #[tactic(auto, using(crate::proofs::ToldEvents::fails_at_end, crate::proofs::ToldEvents::fails_at_skip))]
+    pub(crate) fn next_call_or_arrival(
+        &mut self,
+        calls: &mut CallReader,
+        taken: &mut ByteTrace,
+    ) -> Arrival
+        ensures gives { TolerantInboxGives R.remaining L.passes self.old (arrival_view result)
+            self.new }
+        ensures reads_on { EndsAtContent L.ends self.old self.new }
+        ensures told { Told (TakenFor self.old.limits L.passes (self.old.end, self.old.policy.now) (arrival_view result)
+            (self.new.end, self.new.policy.now))
+            taken.old.parts taken.new.parts (R.remaining self.old.reader.now) (R.remaining self.new.reader.now) }
+        ensures failed { FailsInWait self.old.end self.new.end taken.old taken.new }
+    {
+        match self.read_incoming(calls, taken) {
+            Ok(Some(came)) => came.into_arrival(),
             Ok(None) => Arrival::Closed,
             Err(fault) => {
                 if is_bad_content(fault) && self.policy.skips(fault) {

@@ -12,6 +12,7 @@ use crate::lifecycle::{EXIT_SECONDS, Outbox, TextOutbox, WakingInbox, offer, ok_
 use crate::loops::machine::{Awaits, Came, SessionCore, TurnOutput};
 use crate::loops::service::{Sendable, Sending, Service, WithTexts, send_message};
 use crate::loops::session_outcome::SessionOutcome;
+use lsp_calls::CallReader;
 use serde_json::Value;
 use std::alloc::Global;
 
@@ -33,8 +34,9 @@ use std::alloc::Global;
 /// it with `out of memory`. The remaining messages of that turn are not sent. A reply to `shutdown` that could not be
 /// sent is ignored. After 2^64 - 1 events the session ends as if the messages had ended.
 ///
-/// From `initialized` up to `shutdown` each wait is a call of `WakingInbox::receive_or_woken`, so what the transport
-/// promises about such a wait (`listens`) holds for each. If it promises there that no wake-up is lost, the service
+/// From `initialized` up to `shutdown` each wait is a call of `WakingInbox::receive_or_woken`, or of
+/// `receive_call_or_woken` if the service reads calls, so what the transport promises about such a wait (`listens`)
+/// holds for each. If it promises there that no wake-up is lost, the service
 /// gets every wake-up.
 ///
 /// Everything that is to be sent for a message or a wake-up is sent before the session waits for anything else: the
@@ -68,11 +70,12 @@ pub(crate) fn serve_by<L: WakingInbox + Outbox, S: Service, W: Sending<L, S::Out
         transport.old result.answer transport.new }
 {
     let mut session = SessionCore::new(alloc);
+    let mut calls = CallReader::new(alloc);
     for _turn in 0..u64::MAX {
         if session.awaits() == Awaits::Nothing {
             return session.into_outcome();
         }
-        take_turn::<L, S, W>(transport, &mut session, service);
+        take_turn::<L, S, W>(transport, &mut session, service, &mut calls);
     }
     session.into_outcome()
 }
@@ -82,12 +85,13 @@ fn take_turn<L: WakingInbox + Outbox, S: Service, W: Sending<L, S::Output>>(
     transport: &mut L,
     session: &mut SessionCore,
     service: &mut S,
+    calls: &mut CallReader,
 )
     requires { IsOver session.old.stage → ⊥ }
     ensures { TurnsOn L.receives L.listens L.sends S.behavior (session.old.stage, service.old, transport.old)
         (session.new.stage, service.new, transport.new) }
 {
-    let came = wait(transport, session);
+    let came = wait(transport, session, calls, service.reads_calls());
     let turn = session.advance(service, came);
     match send_turn::<L, S::Output, W>(transport, turn.output) {
         Ok(()) => {
@@ -99,12 +103,20 @@ fn take_turn<L: WakingInbox + Outbox, S: Service, W: Sending<L, S::Output>>(
     }
 }
 
-/// Waits for the event that the session needs next.
-fn wait<L: WakingInbox>(transport: &mut L, session: &SessionCore) -> Came
+/// Waits for the event that the session needs next. It may be a call, if calls are read.
+fn wait<L: WakingInbox>(
+    transport: &mut L,
+    session: &SessionCore,
+    calls: &mut CallReader,
+    reads_calls: bool,
+) -> Came
     requires { IsOver session.now.stage → ⊥ }
     ensures awaits { WaitsIn L.receives L.listens (phase_of session.now.stage) transport.old (came_view result) transport.new }
     ensures awaited { IsAwaited session.now.stage (came_view result) }
 {
+    if reads_calls && session.awaits() == Awaits::MessageOrWake {
+        return Came::from_arrival(transport.receive_call_or_woken(calls));
+    }
     match session.awaits() {
         Awaits::Message => Came::from_event(transport.receive()),
         Awaits::MessageOrWake => Came::from_arrival(transport.receive_or_woken()),

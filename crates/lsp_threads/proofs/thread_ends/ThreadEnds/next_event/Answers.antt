@@ -18,7 +18,7 @@ read_next-requires g c =
 
 pub loop-preserved : goal.loop-preserved
 loop-preserved g c =
-    let comes = rw (c.in-Ok-Woken.is, c.in-Ok-Woken.field-0-is) at c.read_next.ensures in (
+    let comes = rw (c.in-Ok-Woken.is, c.in-Ok-Woken.field-0-is) at c.read_next.ensures.reads in (
       passes_wake (seen_of c.args.self.now) (seen_of c.loop.self) (seen_of c.read_next.new.self) c.loop.invariant.0
           comes.0,
       left_on c.args.self.now c.loop.self c.read_next.new.self c.loop.invariant.1 comes.1,
@@ -26,7 +26,7 @@ loop-preserved g c =
 
 pub returns-in-Ok-Message : goal.returns-in-Ok-Message
 returns-in-Ok-Message g c =
-    let comes = rw (c.in-Ok-Message.is, c.in-Ok-Message.field-0-is) at c.read_next.ensures in (
+    let comes = rw (c.in-Ok-Message.is, c.in-Ok-Message.field-0-is) at c.read_next.ensures.reads in (
       message_after (seen_of c.args.self.now) (seen_of c.loop.self) (seen_of c.read_next.new.self) c.loop.invariant.0
           g.L.BadContentPolicy.passes (message_view c.in-Ok-Message.message) comes.0,
       left_on c.args.self.now c.loop.self c.read_next.new.self c.loop.invariant.1 comes.1,
@@ -34,7 +34,7 @@ returns-in-Ok-Message g c =
 
 pub returns-in-Ok-Closed : goal.returns-in-Ok-Closed
 returns-in-Ok-Closed g c =
-    let comes = rw (c.in-Ok-Closed.is, c.in-Ok-Closed.field-0-is) at c.read_next.ensures in (
+    let comes = rw (c.in-Ok-Closed.is, c.in-Ok-Closed.field-0-is) at c.read_next.ensures.reads in (
       closed_after (seen_of c.args.self.now) (seen_of c.loop.self) (seen_of c.read_next.new.self) c.loop.invariant.0
           g.L.BadContentPolicy.passes comes.0,
       left_on c.args.self.now c.loop.self c.read_next.new.self c.loop.invariant.1 comes.1,
@@ -42,7 +42,7 @@ returns-in-Ok-Closed g c =
 
 pub returns-in-Err : goal.returns-in-Err
 returns-in-Err g c =
-    let comes = rw c.in-Err.is at c.read_next.ensures in (
+    let comes = rw c.in-Err.is at c.read_next.ensures.reads in (
       fault_after (seen_of c.args.self.now) (seen_of c.loop.self) (seen_of c.read_next.new.self) c.loop.invariant.0
           g.L.BadContentPolicy.passes c.in-Err.fault comes.0,
       left_on c.args.self.now c.loop.self c.read_next.new.self c.loop.invariant.1 comes.1,

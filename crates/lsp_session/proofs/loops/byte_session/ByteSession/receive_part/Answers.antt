@@ -2,10 +2,10 @@ use Rattle.std.proofs.Common.{refl, sym, ap, subst, ◌∙◌, inl, inr, ℕ, Li
 use Rattle.std.proofs.Common.{append-nil}
 use Rattle.std.proofs.Common.{Result, Ok}
 use Rattle.std.proofs.Common.{IfOk}
-use Rattle.lsp_message.specs.View.{message_view}
+use Rattle.lsp_session.specs.Incoming.{incoming_view}
 use Rattle.lsp_message.specs.declared.frame.ReadFault.{ReadFault}
 use Rattle.lsp_message.specs.declared.frame.limits.Limits.{Limits}
-use Rattle.lsp_message.specs.declared.msg.Message as msg
+use Rattle.lsp_session.specs.declared.loops.incoming.Incoming.{Incoming}
 use Rattle.lsp_session.proofs.ByteHistory.{goes_on, goes_kept, goes_message, goes_same, goes_still}
 use Rattle.lsp_session.proofs.MessagesEnd.{ends_at_frame, ends_otherwise, known_open, knows_still}
 use Rattle.lsp_session.proofs.Pausing.{no_pause, pauses_at_frame}
@@ -20,7 +20,7 @@ use Rattle.lsp_session.proofs.loops.byte_session.ByteSession.receive_part.Goals 
 pub returns-in-Ok-Some-clause-some : goal.returns-in-Ok-Some-clause-some
 returns-in-Ok-Some-clause-some g c =
     let bytes = c.args.bytes.now in
-    inl (subst (λ (r : Result (Option msg.Message) ReadFault). IfOk r (λ _. 0 < length bytes
+    inl (subst (λ (r : Result (Option Incoming) ReadFault). IfOk r (λ _. 0 < length bytes
     → 0 < c.receive-count.result.0))
     c.in-Ok-Some.is c.receive-count.ensures.some)
 
@@ -33,34 +33,34 @@ returns-in-Ok-Some-clause-goes g c =
     let part = take c.receive-count.result.0 c.args.bytes.now in
     let text = unread start ++ part in
     let left = c.receive-count.new.self.bytes.items in
-    let read = subst (λ (r : Result (Option msg.Message) ReadFault). ReadsOne limits text r left)
+    let read = subst (λ (r : Result (Option Incoming) ReadFault). ReadsOne limits text r left)
     (c.in-Ok-Some.is ∙ ap Ok c.in-Ok-Some.field-0-is) c.receive-count.ensures.read in
     goes_on limits start.most_pending may (standing start) (standing new) (unread start) text (unread new) start.end
     new.end part refl (goes_message limits start.most_pending may (standing start) (standing new)
-    (message_view c.in-Ok-Some.message) text text left (unread new) start.end new.end read.0 (sym (append-nil text)
+    (incoming_view c.in-Ok-Some.came) text text left (unread new) start.end new.end read.0 (sym (append-nil text)
     ∙ ap (λ l. text ++ l) (sym read.1))
     (ap (λ (i : FrameInput). i.bytes.items) c.come.ensures.input) c.come.ensures.end c.requires.room c.requires.waits
-    c.come.ensures.comes)
+    (rw (c.into_came.ensures) at c.come.ensures.comes))
 
 pub returns-in-Ok-Some-clause-frame : goal.returns-in-Ok-Some-clause-frame
 returns-in-Ok-Some-clause-frame g c =
     let start = c.args.self.now in
     let input = c.receive-count.new.self in
     let text = unread start ++ take c.receive-count.result.0 c.args.bytes.now in
-    let read = subst (λ (r : Result (Option msg.Message) ReadFault). ReadsOne start.input.limits text r
+    let read = subst (λ (r : Result (Option Incoming) ReadFault). ReadsOne start.input.limits text r
     input.bytes.items) (c.in-Ok-Some.is ∙ ap Ok c.in-Ok-Some.field-0-is) c.receive-count.ensures.read in
     ends_at_frame c.come.new.self input c.come.ensures.input read.1
 
 pub returns-in-Ok-Some-clause-served : goal.returns-in-Ok-Some-clause-served
 returns-in-Ok-Some-clause-served g c =
     let input = c.receive-count.new.self in
-    served_after c.come.new.self input c.come.ensures.input (subst (λ (r : Result (Option msg.Message) ReadFault).
+    served_after c.come.new.self input c.come.ensures.input (subst (λ (r : Result (Option Incoming) ReadFault).
     IfOk r (λ _. AwaitsMore input.limits input.bytes.items)) c.in-Ok-Some.is c.receive-count.ensures.awaits)
 
 pub returns-in-Ok-None-clause-some : goal.returns-in-Ok-None-clause-some
 returns-in-Ok-None-clause-some g c =
     let bytes = c.args.bytes.now in
-    inl (subst (λ (r : Result (Option msg.Message) ReadFault). IfOk r (λ _. 0 < length bytes
+    inl (subst (λ (r : Result (Option Incoming) ReadFault). IfOk r (λ _. 0 < length bytes
     → 0 < c.receive-count.result.0))
     c.in-Ok-None.is c.receive-count.ensures.some)
 
@@ -72,7 +72,7 @@ returns-in-Ok-None-clause-goes g c =
     let part = take c.receive-count.result.0 c.args.bytes.now in
     let text = unread start ++ part in
     let left = c.receive-count.new.self.bytes.items in
-    let read = subst (λ (r : Result (Option msg.Message) ReadFault). ReadsOne limits text r left)
+    let read = subst (λ (r : Result (Option Incoming) ReadFault). ReadsOne limits text r left)
     (c.in-Ok-None.is ∙ ap Ok c.in-Ok-None.field-0-is) c.receive-count.ensures.read in
     goes_on limits start.most_pending may (standing start) (standing start) (unread start) text left start.end
     start.end part refl (goes_still limits start.most_pending may (standing start) text start.end left read)
@@ -83,7 +83,7 @@ returns-in-Ok-None-clause-frame g c = λ over. absurd (c.requires.waits over)
 pub returns-in-Ok-None-clause-served : goal.returns-in-Ok-None-clause-served
 returns-in-Ok-None-clause-served g c =
     let input = c.receive-count.new.self in
-    inr (subst (λ (r : Result (Option msg.Message) ReadFault). IfOk r (λ _. AwaitsMore input.limits input.bytes.items))
+    inr (subst (λ (r : Result (Option Incoming) ReadFault). IfOk r (λ _. AwaitsMore input.limits input.bytes.items))
     c.in-Ok-None.is c.receive-count.ensures.awaits)
 
 pub returns-in-Err-clause-some : goal.returns-in-Err-clause-some
@@ -99,7 +99,7 @@ returns-in-Err-clause-goes g c =
     let text = unread start ++ part in
     let input = c.receive-count.new.self in
     let left = input.bytes.items in
-    let read = subst (λ (r : Result (Option msg.Message) ReadFault). ReadsOne limits text r left) c.in-Err.is
+    let read = subst (λ (r : Result (Option Incoming) ReadFault). ReadsOne limits text r left) c.in-Err.is
     c.receive-count.ensures.read in
     goes_on limits start.most_pending may (standing start) (standing new) (unread start) text (unread new) start.end
     new.end part refl (goes_kept limits start.most_pending may (standing start) (standing new) text left start.end []
@@ -117,9 +117,10 @@ pub returns-in-Ok-Some-clause-known : goal.returns-in-Ok-Some-clause-known
 returns-in-Ok-Some-clause-known g c =
     let start = c.args.self.now in
     let read = record start { input = c.receive-count.new.self } in λ known.
-    knows_still g.S.Service.behavior read c.come.new.self (message (message_view c.in-Ok-Some.message)) (λ e. cc (e))
-    c.come.ensures.comes c.come.ensures.input c.come.ensures.end (known_open start.input.limits read.input.limits
-    (unread start) (unread read) start.core.stage start.end c.requires.waits known)
+    knows_still g.S.Service.behavior read c.come.new.self (message (incoming_view c.in-Ok-Some.came)) (λ e. cc (e))
+    (rw (c.into_came.ensures) at c.come.ensures.comes) c.come.ensures.input c.come.ensures.end (known_open
+    start.input.limits read.input.limits (unread start) (unread read) start.core.stage start.end c.requires.waits
+    known)
 
 pub returns-in-Ok-None-clause-known : goal.returns-in-Ok-None-clause-known
 returns-in-Ok-None-clause-known g c =
@@ -135,7 +136,7 @@ fail-requires-clause-begins g c =
     let left = c.receive-count.new.self.bytes.items in
     let text = unread start ++ take c.receive-count.result.0 c.args.bytes.now in
     let fault = c.in-Err.fault in
-    let read = subst (λ (r : Result (Option msg.Message) ReadFault). ReadsOne limits text r left) c.in-Err.is
+    let read = subst (λ (r : Result (Option Incoming) ReadFault). ReadsOne limits text r left) c.in-Err.is
     c.receive-count.ensures.read in
     subst (λ (l : Limits). BeginsWithFault l left fault) (sym c.receive-count.ensures.limits)
     (subst (λ (l : List ℕ). BeginsWithFault limits l fault) (sym read.0) read.1)
@@ -148,7 +149,7 @@ returns-in-Ok-Some-clause-paused g c =
     let start = c.args.self.now in
     let input = c.receive-count.new.self in
     let text = unread start ++ take c.receive-count.result.0 c.args.bytes.now in
-    let read = subst (λ (r : Result (Option msg.Message) ReadFault). ReadsOne start.input.limits text r
+    let read = subst (λ (r : Result (Option Incoming) ReadFault). ReadsOne start.input.limits text r
     input.bytes.items) (c.in-Ok-Some.is ∙ ap Ok c.in-Ok-Some.field-0-is) c.receive-count.ensures.read in
     pauses_at_frame c.come.new.self input c.come.ensures.input read.1
 

@@ -4,7 +4,7 @@ use Rattle.std.proofs.Common.{append-nil}
 use Rattle.std.proofs.Common.{length-append, length-take-le, None, Ok, Err}
 use Rattle.lsp_message.specs.Frame.{body_means}
 use Rattle.lsp_message.specs.ReadingSteps.{Decodes}
-use Rattle.lsp_message.specs.View.{message_view}
+use Rattle.lsp_session.specs.Incoming.{incoming_view}
 use Rattle.lsp_message.specs.declared.frame.ReadFault.TheVariants.{Memory}
 use Rattle.lsp_session.specs.ByteSession.{AwaitsMore, BeginsWithFault, IsFrameRead}
 use Rattle.lsp_session.specs.FramePlace.{InContent, InHeader, IsFaultOf, IsPlaceOf}
@@ -103,9 +103,9 @@ returns-in-Ok-clause-read c =
     ) in
     let part = ap (λ (l : List ℕ). take (length l - c.args.start) (drop c.args.start l)) c.as_slice-bytes.ensures.value
     ∙ tail_of c.args.start new in (
-      subst (IsFrameRead self.limits (message_view c.in-Ok.message)) now
-          (read_message self.limits old more new c.args.start c.args.size here now all (message_view c.in-Ok.message)
-          (subst (λ (l : List ℕ). body_means l ≡ Ok (message_view c.in-Ok.message)) part c.in-Ok.ensures)),
+      subst (IsFrameRead self.limits (incoming_view c.in-Ok.message)) now
+          (read_message self.limits old more new c.args.start c.args.size here now all (incoming_view c.in-Ok.message)
+          (subst (λ (l : List ℕ). body_means l ≡ Ok (incoming_view c.in-Ok.message)) part c.in-Ok.ensures)),
       c.clear.ensures.items,
     )
 
@@ -170,8 +170,8 @@ invariant_of-self-in-Err-2 c =
     let part = ap (λ (l : List ℕ). take (length l - c.args.start) (drop c.args.start l)) c.as_slice-bytes.ensures.value
     ∙ tail_of c.args.start new in
     let other : fault ≢ Memory = c.if-is_memory.ensures.bytes (λ e. true≢false (sym e)) in
-    let begins = read_fault self.limits old more new c.args.start c.args.size here now all fault other
-    (subst (λ (l : List ℕ). Decodes message_view (Err fault) (body_means l)) part c.in-Err.ensures) in
+    let begins = read_fault self.limits old more new c.args.start c.args.size here now all incoming_view fault other
+    (subst (λ (l : List ℕ). Decodes incoming_view (Err fault) (body_means l)) part c.in-Err.ensures) in
     record {
       header = fault_header self.limits new fault;
       content = fault_content self.limits new fault;
@@ -202,6 +202,6 @@ returns-in-Err-2-clause-read c =
     let part = ap (λ (l : List ℕ). take (length l - c.args.start) (drop c.args.start l)) c.as_slice-bytes.ensures.value
     ∙ tail_of c.args.start new in
     let other : fault ≢ Memory = c.if-is_memory.ensures.bytes (λ e. true≢false (sym e)) in
-    let begins = read_fault self.limits old more new c.args.start c.args.size here now all fault other
-    (subst (λ (l : List ℕ). Decodes message_view (Err fault) (body_means l)) part c.in-Err.ensures) in
+    let begins = read_fault self.limits old more new c.args.start c.args.size here now all incoming_view fault other
+    (subst (λ (l : List ℕ). Decodes incoming_view (Err fault) (body_means l)) part c.in-Err.ensures) in
     (now, subst (λ (l : List ℕ). BeginsWithFault self.limits l fault) now (begins_with self.limits new fault begins))
