@@ -1,10 +1,12 @@
 // What a server does at each message of its client.
 ghost use Rattle.serde_json.specs.View.{view};
-ghost use Rattle.std.specs.Prelude.{map, List, IfOk, string_bytes};
+ghost use Rattle.std.specs.Prelude.{map, option_map, List, IfOk, string_bytes};
 ghost use Rattle.lsp_message.specs.View.{outcome_view};
 ghost use Rattle.lsp_acts.specs.Acts.{Act as PlainAct};
+ghost use Rattle.lsp_acts.specs.Calls.{AnswersCall};
 ghost use Rattle.lsp_acts.specs.View.{act_view};
 
+use lsp_calls::CallRef;
 use lsp_message::{Notification, Request, RequestId, ResponseError, ResultText};
 use serde_json::Value;
 use std::alloc::{AllocError, Global};
@@ -96,6 +98,28 @@ pub trait Server {
         ensures { IfOk result (λ acts.
             notification_post self.old (string_bytes notification.method) (view notification.params)
             (map (act_view Self.PendingData.eq) acts.items) self.new) };
+
+    /// Returns whether the server wants requests and notifications by `call`. By default it does not.
+    fn reads_calls(&self) -> bool {
+        false
+    }
+
+    /// Handles a request or a notification whose params are read where they stand, without a tree. It returns `None` to
+    /// get the message by `request` or `notification`. Then nothing has changed. By default it returns `None`.
+    ///
+    /// If `reads_calls` returns true, a `ServerApplication` passes each request and each notification here first. This
+    /// has two exceptions: the session handles `initialize`, `initialized`, `shutdown` and `exit`, and
+    /// `$/cancelRequest` goes to `notification` alone. A session with jobs calls `request` and `notification` alone.
+    fn call(
+        &mut self,
+        call: &CallRef<'_>,
+    ) -> Result<Option<Vec<Act<Self::PendingData>>>, AllocError>
+        ensures { IfOk result (λ answer. AnswersCall request_post notification_post self.old call.now
+            (option_map (λ acts. map (act_view Self.PendingData.eq) acts.items) answer) self.new) }
+    {
+        let _ = call;
+        Ok(None)
+    }
 
     /// Handles the reply to a request of the server, with the payload that was kept for it. A reply that arrives after
     /// `shutdown` is skipped.

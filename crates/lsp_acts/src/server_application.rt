@@ -1,6 +1,7 @@
 // A server beside its queues: what it does at a message, and the queues of requests that have no reply yet.
 ghost use Rattle.serde_json.specs.View.{view};
-ghost use Rattle.std.specs.Prelude.{◌≡◌, map, List, [], string_bytes, true, IfOk, IsOk, Ok, Err, Some, None};
+ghost use Rattle.std.specs.Prelude.{◌≡◌, map, List, [], string_bytes, true, false, IfOk, IsOk, MatchOption, OnOk, Ok, Err, Some, None};
+ghost use Rattle.lsp_calls.specs.Calls.{call_ref_view};
 ghost use Rattle.lsp_message.specs.ErrorCode.{number_of};
 ghost use Rattle.lsp_message.specs.Message.{notification};
 ghost use Rattle.lsp_message.specs.View.{message_view, request_view, notification_view, response_view, outcome_view};
@@ -8,10 +9,12 @@ ghost use Rattle.lsp_message.specs.declared.msg.code.ErrorCode.TheVariants.{Requ
 ghost use Rattle.lsp_queue.specs.Queue.{count_of};
 ghost use Rattle.lsp_session.specs.OutputView.{sent_view, to_send_view};
 ghost use Rattle.lsp_acts.specs.Acts.{tells, asks, replies, cancels, does, does_all, empty_queues, is_spent, unsent, unsent_by, TakesBack, holds, given, with_message, answers_cancelled, cancel_method, cleared, cancelled_by, cancel_params as cancel_params_spec, Acts, AnswersHeld};
-ghost use Rattle.lsp_acts.specs.ServerApplication.{with_queues, Works, Parts};
+ghost use Rattle.lsp_acts.specs.ServerApplication.{with_queues, Works, WorksSending, Parts};
+ghost use Rattle.lsp_acts.specs.Calls.{held_at, is_cancellation};
 ghost use Rattle.lsp_acts.specs.View.{act_view, queues_of, listed, seen};
 
 use crate::server::{Act, Server};
+use lsp_calls::{CallRef, NotificationRef, RequestRef};
 use lsp_message::{
     ErrorCode, Message, Notification, Request, RequestId, Response, ResponseError, ResultText,
 };
@@ -173,6 +176,16 @@ impl<P: Drop + PartialEq> Queues<P> {
         }
     }
 
+    /// Holds the request that a call is, if it is one.
+    fn hold_call(&mut self, call: &CallRef<'_>) -> Result<(), AllocError>
+        ensures { IfOk result (λ _. queues_of self.new ≡ held_at call.now (queues_of self.old)) }
+    {
+        match call {
+            CallRef::Request(request) => self.hold(request.id),
+            CallRef::Notification(_) => Ok(()),
+        }
+    }
+
     /// Performs an act. It returns the payload of a request for which no id was left.
     fn perform(&mut self, act: Act<P>) -> Result<Option<P>, AllocError>
         ensures queues { IfOk result (λ _.
@@ -241,6 +254,51 @@ pub fn cancelled_id(notification: &Notification) -> Result<Option<RequestId>, Al
         return Ok(None);
     }
     id_to_cancel(&notification.params)
+}
+
+/// Returns the acts of a server for a request. A server that reads calls gets it as a call first.
+fn acts_at_request<S: Server>(
+    server: &mut S,
+    request: Request,
+) -> Result<Vec<Act<S::PendingData>>, AllocError>
+    ensures { IfOk result (λ acts. S.request_post server.old request.id (string_bytes request.method)
+        (view request.params) (map (act_view S.PendingData.eq) acts.items) server.new) }
+{
+    if server.reads_calls() {
+        let call = CallRef::Request(RequestRef::of(&request));
+        if let Some(acts) = server.call(&call)? {
+            return Ok(acts);
+        }
+    }
+    server.request(request)
+}
+
+/// Returns the acts of a server for a notification. A server that reads calls gets it as a call first, unless the
+/// notification cancels a request.
+fn acts_at_notification<S: Server>(
+    server: &mut S,
+    notification: Notification,
+) -> Result<Vec<Act<S::PendingData>>, AllocError>
+    ensures { IfOk result (λ acts. S.notification_post server.old (string_bytes notification.method)
+        (view notification.params) (map (act_view S.PendingData.eq) acts.items) server.new) }
+{
+    if server.reads_calls() && notification.method.as_str() != "$/cancelRequest" {
+        let call = CallRef::Notification(NotificationRef::of(&notification));
+        if let Some(acts) = server.call(&call)? {
+            return Ok(acts);
+        }
+    }
+    server.notification(notification)
+}
+
+/// Returns whether a call cancels a request.
+fn cancels(call: &CallRef<'_>) -> bool
+    ensures { result ≡ is_cancellation call.now }
+{
+    match call {
+        CallRef::Request(_) => false,
+        CallRef::Notification(notification) => notification.method == "$/cancelRequest",
+    }
 }
 
 /// A server with its queues, as a service that a session runs.
@@ -330,7 +388,7 @@ impl<S: Server> ServerApplication<S, S::PendingData> {
             (seen self.new)) }
     {
         self.queues.hold(&request.id)?;
-        let acts = self.server.request(request)?;
+        let acts = acts_at_request(&mut self.server, request)?;
         self.perform_all(acts)
     }
 
@@ -340,9 +398,45 @@ impl<S: Server> ServerApplication<S, S::PendingData> {
             (seen self.new)) }
     {
         let cancelled = cancelled_id(&notification)?;
-        let acts = self.server.notification(notification)?;
+        let acts = acts_at_notification(&mut self.server, notification)?;
         self.perform_all(acts)?;
         self.queues.answer_cancelled(cancelled)
+    }
+
+    /// Passes a call to the server, and returns the messages to send for it. The result is `None` if the server did not
+    /// answer it. Then nothing has changed. A notification that cancels a request is not passed.
+    fn on_call(&mut self, call: &CallRef<'_>) -> Result<Option<Vec<ToSend>>, AllocError>
+        ensures { IfOk result (λ answer. MatchOption answer (self.new ≡ self.old)
+            (λ sent. WorksSending S.Server (seen self.old) (Some (call_ref_view call.now)) (sent_view sent.items)
+            (seen self.new))) }
+    {
+        if cancels(call) {
+            return Ok(None);
+        }
+        match self.server.call(call)? {
+            Some(acts) => Ok(Some(self.perform_for(call, acts)?)),
+            None => Ok(None),
+        }
+    }
+
+    /// Holds the request that a call is, if it is one, performs the acts of the server for the call, and returns the
+    /// messages to send.
+    fn perform_for(
+        &mut self,
+        call: &CallRef<'_>,
+        acts: Vec<Act<S::PendingData>>,
+    ) -> Result<Vec<ToSend>, AllocError>
+        ensures sent { IfOk result (λ sent. sent_view sent.items
+            ≡ (does_all (held_at call.now (queues_of self.old.queues)) (map (act_view S.PendingData.eq) acts.items)).sent) }
+        ensures queues { OnOk result (queues_of self.new.queues
+            ≡ cleared (does_all (held_at call.now (queues_of self.old.queues)) (map (act_view S.PendingData.eq) acts.items))) }
+        ensures back { OnOk result (TakesBack S.ids_exhausted_post self.old.server
+            (unsent (count_of (held_at call.now (queues_of self.old.queues)).asked) (map (act_view S.PendingData.eq) acts.items))
+            self.new.server) }
+    {
+        self.queues.hold_call(call)?;
+        self.perform_all(acts)?;
+        Ok(self.queues.take_sent())
     }
 
     fn on_response(&mut self, response: Response) -> Result<(), AllocError>
@@ -389,6 +483,18 @@ impl<S: Server> Service for ServerApplication<S, S::PendingData> {
     fn notification(&mut self, notification: Notification) -> Result<Output, AllocError> {
         self.on_notification(notification)?;
         Ok(Output::Several(self.queues.take_sent()))
+    }
+
+    /// Returns what the server's `reads_calls` returns.
+    fn reads_calls(&self) -> bool {
+        self.server.reads_calls()
+    }
+
+    fn call(&mut self, call: &CallRef<'_>) -> Result<Option<Output>, AllocError> {
+        match self.on_call(call)? {
+            Some(sent) => Ok(Some(Output::Several(sent))),
+            None => Ok(None),
+        }
     }
 
     fn response(&mut self, response: Response) -> Result<Output, AllocError> {
