@@ -1,9 +1,11 @@
+pub use Rattle.lsp_calls.specs.Calls
 pub use Rattle.lsp_dispatch.specs.Dispatch
 pub use Rattle.lsp_dispatch.specs.DispatchAnswers
 pub use Rattle.lsp_dispatch.specs.DispatchCalls
 pub use Rattle.lsp_dispatch.specs.DispatchFaults
 pub use Rattle.lsp_dispatch.specs.DispatchLaw
 pub use Rattle.lsp_dispatch.specs.DispatchPending
+pub use Rattle.lsp_json.specs.JsonRef
 pub use Rattle.lsp_message.specs.Composing
 pub use Rattle.lsp_message.specs.Converted
 pub use Rattle.lsp_message.specs.ErrorCode

@@ -6,6 +6,7 @@
 //! with `run_in_threads`. Take a `Connection` for a loop of your own. `docs/WRITING_A_SERVER.md` shows all three.
 #![tactic(auto)]
 
+pub mod calls;
 mod channel_account;
 mod client_places;
 pub mod clients;
