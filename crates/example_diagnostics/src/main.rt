@@ -13,8 +13,9 @@ ghost use Rattle.lsp_acts.specs.ServerApplication.{ServerSession};
 use anyhow::{Result as Answer, bail};
 use lsp_acts::cancelled_id;
 use lsp_documents::{DocumentUpdate, SyncOptions, TextDocuments, UpdateFault};
-use lsp_features::{Answers, announce, dispatch};
+use lsp_features::{Answers, announce, dispatch, dispatch_ref};
 use lsp_methods::{Configuration, from_value, publish};
+use lsp_server::calls::{CallRef, NotificationRef};
 use lsp_server::clients::{ClientOptions, serve_clients};
 use lsp_server::policies::{BadContentPolicy, EndOnBadContent};
 use lsp_server::{
@@ -93,6 +94,24 @@ impl Server for Checker {
         }
     }
 
+    fn reads_calls(&self) -> bool {
+        true
+    }
+
+    // What a call needs no tree for is answered here. A hover that has to wait is kept by `request`.
+    fn call(&mut self, call: &CallRef<'_>) -> Result<Option<Acts>, AllocError> {
+        match call {
+            CallRef::Request(request) if self.is_asking && request.method == HoverRequest::METHOD =>
+                { Ok(None) }
+            CallRef::Request(request) => dispatch_ref::<Features, _, _>(self.alloc, self, request),
+            CallRef::Notification(notification) => {
+                let mut acts = Vec::new(self.alloc);
+                self.note(notification, &mut acts)?;
+                Ok(Some(acts))
+            }
+        }
+    }
+
     fn request(&mut self, request: Request) -> Result<Acts, AllocError> {
         let alloc = self.alloc;
         if self.is_asking && request.method.as_str() == HoverRequest::METHOD {
@@ -111,7 +130,7 @@ impl Server for Checker {
             self.waiting.retain(|it| it.id != id);
         }
         let mut acts = Vec::new(self.alloc);
-        self.note(&notification, &mut acts)?;
+        self.note(&NotificationRef::of(&notification), &mut acts)?;
         Ok(acts)
     }
 
@@ -167,8 +186,12 @@ impl Checker {
     }
 
     /// Adds the acts after a notification.
-    fn note(&mut self, notification: &Notification, acts: &mut Acts) -> Result<(), AllocError> {
-        match self.documents.apply(notification) {
+    fn note(
+        &mut self,
+        notification: &NotificationRef<'_>,
+        acts: &mut Acts,
+    ) -> Result<(), AllocError> {
+        match self.documents.apply_ref(notification) {
             Some(Ok(update)) => self.follow(update, acts),
             Some(Err(missed)) => self.complain(missed.or_out_of_memory()?, acts),
             None => Ok(()),

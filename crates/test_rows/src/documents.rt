@@ -16,6 +16,7 @@ use lsp_documents::{
     DocumentFault, DocumentOptions, DocumentSnapshot, DocumentUpdate, SyncOptions, SyncWarning,
     TextDocuments, UpdateFault, position_from,
 };
+use lsp_json::JsonRef;
 use lsp_message::Notification;
 use lsp_text::{ContentChange, LineEnds, Position, Range, Text, TextDocument};
 use serde_json::Value;
@@ -336,7 +337,7 @@ impl Documents {
 
     /// The document that params name, if its text is known, and where their position is in it.
     fn place_in(&self, params: &Value) -> Option<(&TextDocument, usize)> {
-        let position = position_from(params.get("position")?)?;
+        let position = position_from(&JsonRef::of_tree(params.get("position")?))?;
         self.documents.resolve(text_in(params.get("uri")), position)
     }
 
@@ -382,7 +383,7 @@ fn show_copies(said: &mut Said, copies: &[DocumentSnapshot]) {
 
 /// The line of a position that params have.
 fn line_of<'t>(text: &'t Text, params: &Value) -> Option<&'t str> {
-    text.line(position_from(params.get("position")?)?.line)
+    text.line(position_from(&JsonRef::of_tree(params.get("position")?))?.line)
 }
 
 fn flag_in(params: &Value, name: &str) -> Option<bool> {

@@ -13,6 +13,8 @@
 //!   semantic tokens, a report of diagnostics, a line of a trace, and the registration of watched files.
 //! - `method`: the acts at a message, by LSP's methods. `configuration`: what a client is asked, and what it sends.
 //! - `announce`: what a table of features announces. `answer`: what it makes of a request.
+//! - `json`, `quoted`, `member`: a text of JSON, the same given as a text of JSON, and a member of what it has, each read
+//!   where it stands. `content`, `octets`: a content part, and one by its bytes: the call that it holds.
 //! - `document`: a notification about an open document.
 //!
 //! If an allocation fails, in a call or in the program, the row has a line `refused: ..`, and is run again. The program
@@ -21,9 +23,11 @@
 
 mod boxes;
 mod by_method;
+mod call_texts;
 mod dispatching;
 mod documents;
 mod forms;
+mod json_texts;
 mod links;
 mod lists;
 mod many;

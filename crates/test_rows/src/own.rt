@@ -3,6 +3,7 @@ ghost use Rattle.std.specs.Prelude.{◌∷◌, [], Some, codes};
 ghost use Rattle.lsp_types.specs.Json.{object_of};
 ghost use Rattle.lsp_types.specs.Reads.{IsObject, Required, ◌and◌};
 
+use lsp_json::JsonRef;
 use lsp_types::json::{Members, Misfit, Object};
 use lsp_types::{FromJson, Range, ToJson};
 use serde_json::Value;
@@ -22,7 +23,7 @@ impl FromJson for Note {
         and Required ⟦<Range as FromJson>⟧.reads (codes "range") json it.range
         and Required ⟦<String as FromJson>⟧.reads (codes "text") json it.text };
 
-    fn from_json(alloc: Global, value: &Value) -> Result<Note, Misfit> {
+    fn from_json(alloc: Global, value: &JsonRef<'_>) -> Result<Note, Misfit> {
         match Members::new(alloc, value)
             .required("range")
             .required("text")

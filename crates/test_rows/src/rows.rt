@@ -2,7 +2,8 @@
 use crate::documents::Documents;
 use crate::said::Said;
 use crate::{
-    by_method, dispatching, links, lists, messages, plain, queues, small_calls, tables, types, uris,
+    by_method, call_texts, dispatching, json_texts, links, lists, messages, plain, queues,
+    small_calls, tables, types, uris,
 };
 use std::alloc::Global;
 
@@ -78,6 +79,11 @@ impl Rows {
             "action" | "change" | "report" | "trace" | "register" => small_calls::made(
                 said, word, rest,
             ),
+            "json" => json_texts::whole(said, rest),
+            "quoted" => json_texts::quoted(said, rest),
+            "member" => json_texts::member(said, rest),
+            "content" => call_texts::content(said, rest),
+            "octets" => call_texts::octets(said, rest),
             "offset" => uris::offset(said, rest),
             "lines" => uris::lines(said, rest),
             "calls" => lists::called(said, rest),

@@ -4,7 +4,8 @@ use crate::messages::{message_in, value_in};
 use crate::said::Said;
 use crate::types::get;
 use lsp_acts::Act;
-use lsp_features::{Answers, Offers, announce, dispatch};
+use lsp_calls::RequestRef;
+use lsp_features::{Answers, Offers, announce, dispatch, dispatch_ref};
 use lsp_message::{Message, Request};
 use lsp_types::methods::{CompletionRequest, HoverRequest, RenameRequest};
 use lsp_types::{
@@ -126,7 +127,10 @@ pub fn answered(said: &mut Said, text: &str) {
     }
 }
 
+/// Prints how a request is answered, and beside it how another call answers the same request, if that differs.
 fn dispatched(said: &mut Said, request: Request) {
+    let mut called = Said::new(said.alloc);
+    say_called(&mut called, &RequestRef::of(&request));
     let mut server = server_with(said.alloc, Vec::new(said.alloc));
     match dispatch::<Features, Tabled, u32>(said.alloc, &mut server, request) {
         Ok(Ok(acts)) => say_all(said, acts),
@@ -137,6 +141,39 @@ fn dispatched(said: &mut Said, request: Request) {
     said.show(server.answered);
     said.push(" answered");
     drop(server);
+    say_difference(said, called);
+}
+
+/// Says the acts for a request whose params are read where they stand, and how many requests were answered.
+fn say_called(said: &mut Said, request: &RequestRef<'_>) {
+    let mut server = server_with(said.alloc, Vec::new(said.alloc));
+    match dispatch_ref::<Features, Tabled, u32>(said.alloc, &mut server, request) {
+        Ok(Some(acts)) => say_all(said, acts),
+        Ok(None) => said.push("returned"),
+        Err(_) => said.is_short = true,
+    }
+    said.push(", ");
+    said.show(server.answered);
+    said.push(" answered");
+    drop(server);
+}
+
+/// Says what the second call said, if the first one said something else. A request that is returned is not in the
+/// second text.
+fn say_difference(said: &mut Said, called: Said) {
+    let is_returned = called.text.as_str() == "returned, 0 answered";
+    let is_same = if is_returned {
+        said.text.as_str().starts_with("returned ") && said.text.as_str().ends_with(", 0 answered")
+    } else {
+        said.text.as_str() == called.text.as_str()
+    };
+    if called.is_short {
+        said.is_short = true;
+    } else if !is_same {
+        said.push(", but ");
+        said.push(called.text.as_str());
+    }
+    drop(called);
 }
 
 fn say_all(said: &mut Said, acts: Vec<Act<u32>>) {

@@ -3,6 +3,7 @@ use crate::messages::{text_in, value_in};
 use crate::more_types;
 use crate::said::Said;
 use lsp_documents::SyncOptions;
+use lsp_json::JsonRef;
 use lsp_types::json::Misfit;
 use lsp_types::{
     ApplyWorkspaceEditParams, ApplyWorkspaceEditResult, CancelParams, ChangeNotifications,
@@ -45,7 +46,7 @@ pub fn answer(said: &mut Said, row: &str) {
 pub fn read_typed<T: FromJson>(alloc: Global, text: &str) -> Result<T, Misfit> {
     match value_in(alloc, text) {
         Ok(value) => {
-            let found = T::from_json(alloc, &value);
+            let found = T::from_json(alloc, &JsonRef::of_tree(&value));
             drop(value);
             found
         }
@@ -267,8 +268,8 @@ fn document_capabilities(said: &mut Said, params: &Value) {
 /// A member by its type, null if there is none.
 fn member<T: FromJson>(alloc: Global, found: &Value, key: &str) -> Result<T, Misfit> {
     match found.get(key) {
-        Some(value) => T::from_json(alloc, value),
-        None => T::from_json(alloc, &Value::Null),
+        Some(value) => T::from_json(alloc, &JsonRef::of_tree(value)),
+        None => T::from_json(alloc, &JsonRef::of_tree(&Value::Null)),
     }
 }
 
@@ -279,7 +280,7 @@ pub fn get<T: FromJson>(said: &mut Said, found: &Value, key: &str, otherwise: T)
 }
 
 fn progress<T: ToJson + FromJson>(said: &mut Said, found: &Value) {
-    match ProgressParams::<T>::from_json(said.alloc, found) {
+    match ProgressParams::<T>::from_json(said.alloc, &JsonRef::of_tree(found)) {
         Ok(told) => {
             say_json(said, &told);
             drop(told);
