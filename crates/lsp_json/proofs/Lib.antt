@@ -4,3 +4,6 @@ pub mod Fitting
 pub mod Whole
 pub mod Looks
 pub mod Trees
+pub mod Writing
+pub mod WrittenTrees
+pub mod WrittenNumbers

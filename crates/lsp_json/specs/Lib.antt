@@ -2,3 +2,4 @@ pub mod JsonRef
 pub mod JsonText
 pub mod Text
 pub mod Fits
+pub mod Writer

@@ -7,6 +7,8 @@ mod json_text;
 mod numbers;
 mod text_ref;
 mod tree;
+mod writer;
 
 pub use json_ref::{JsonItems, JsonRef};
 pub use json_text::JsonText;
+pub use writer::{JsonWriteError, JsonWriter};
