@@ -10,6 +10,7 @@ pub mod FrontSteps
 pub mod HeaderSteps
 pub mod Ids
 pub mod Joined
+mod KeptTexts
 pub mod KnownLines
 mod Members
 pub mod Numerals

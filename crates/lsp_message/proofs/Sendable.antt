@@ -50,7 +50,7 @@ snapshot_send T = record { owned = λ d vs. ((λ vss. (tt, ((λ uss. (tt, tt)), 
 kept_send : IsSend (kept.the_field).row
 kept_send = enum_send (cases kept.the_type) (
   (search (Vec-send, both, sendable) depth 40, (snapshot_send tree.the_row, tt)),
-  ((tree_field_send, tt), tt),
+  ((search (Vec-send, both, sendable) depth 40, tt), ((tree_field_send, tt), tt)),
 )
 
 -- the text of a result too: clauses alone see its tree

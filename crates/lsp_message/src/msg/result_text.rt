@@ -1,14 +1,13 @@
 // The result of a request while it waits: its text, which takes less memory than its tree.
-ghost use Rattle.std.specs.Prelude.{◌≡◌, ◌≤◌, Ok, Err, IfOk, OnOk, string_bytes};
+ghost use Rattle.std.specs.Prelude.{◌≡◌, Some, Ok, Err, IfOk, OnOk, string_bytes};
 ghost use Rattle.std.specs.Result.{result_err};
-ghost use Rattle.serde_json.specs.Data.{depth};
-ghost use Rattle.serde_json.specs.Read.{max_depth};
+ghost use Rattle.serde_json.specs.Read.{read};
 ghost use Rattle.serde_json.specs.View.{view};
 ghost use Rattle.lsp_message.specs.Failures.{WriterFails};
 ghost use Rattle.lsp_message.specs.Message.{response};
 ghost use Rattle.lsp_message.specs.Readable.{WritesReadably};
-ghost use Rattle.lsp_message.specs.ResultText.{spare_tree};
-ghost use Rattle.lsp_message.specs.Text.{IsBodyOf, IsValueText};
+ghost use Rattle.lsp_message.specs.ResultText.{IsReadableText, spare_tree};
+ghost use Rattle.lsp_message.specs.Text.{IsBodyOf};
 ghost use Rattle.lsp_message.specs.Told.{Given, WritesParts};
 ghost use Rattle.lsp_message.specs.View.{message_view};
 ghost use Rattle.lsp_message.specs.Written.{IsFrameOf, MeansAgain, Writes};
@@ -44,6 +43,8 @@ pub struct ResultText {
 pub(crate) enum Kept {
     /// Its text. Only clauses see the tree.
     Text(String, Snapshot<Value>),
+    /// A text that was written with no tree. Clauses see a tree that it is read as.
+    Written(String),
     /// The tree itself.
     Tree(Value),
 }
@@ -68,6 +69,7 @@ impl fmt::Debug for ResultText {
     fn fmt<W: fmt::Write>(&self, f: &mut fmt::Formatter<W>) -> fmt::Result {
         match &self.kept {
             Kept::Text(text, _) => f.write_str(text.as_str()),
+            Kept::Written(text) => f.write_str(text.as_str()),
             Kept::Tree(tree) => write!(f, "{tree:?}"),
         }
     }
@@ -100,12 +102,26 @@ impl ResultText {
         Ok((ResultText { kept }, Some(tree)))
     }
 
+    /// Takes the text that was written for a result with no tree, such as the text of typed data. The text is not read.
+    /// So the caller must know that it is compact JSON, as `serde_json` writes it, which nests at most 127 levels. The
+    /// result is the data that the text is read as.
+    pub fn from_text(text: String) -> ResultText
+        requires { IsReadableText (string_bytes text) }
+        ensures { read (string_bytes text) ≡ Some (view result) }
+    {
+        let mut text = text;
+        text.shrink_to_fit();
+        let kept = Kept::Written(text);
+        ResultText { kept }
+    }
+
     /// Returns the result as a tree again, read from its text. The error means that an allocation failed.
     pub fn into_value(self, alloc: Global) -> Result<Value, AllocError>
         ensures { IfOk result (λ tree. view tree ≡ view self) }
     {
         match self.kept {
-            Kept::Text(text, seen) => read_back(alloc, text.as_str(), seen),
+            Kept::Text(text, _seen) => read_back(alloc, text.as_str()),
+            Kept::Written(text) => read_back(alloc, text.as_str()),
             Kept::Tree(tree) => Ok(tree),
         }
     }
@@ -163,19 +179,18 @@ impl ResultText {
             MeansAgain (response id.now (Ok (view self))) (string_bytes body)) }
     {
         match self.kept {
-            Kept::Text(text, seen) => result_body(alloc, id, text, seen),
+            Kept::Text(text, _seen) => result_body(alloc, id, text),
+            Kept::Written(text) => result_body(alloc, id, text),
             Kept::Tree(tree) => body_of_tree(alloc, id, tree),
         }
     }
 }
 
-/// Reads this text back as a tree.
-fn read_back(alloc: Global, text: &str, seen: Snapshot<Value>) -> Result<Value, AllocError>
-    requires text { IsValueText (view seen.value) text.now }
-    requires nests { depth (view seen.value) ≤ max_depth }
-    ensures { IfOk result (λ tree. view tree ≡ view seen.value) }
+/// Reads this text back as a tree. The error means that an allocation failed.
+fn read_back(alloc: Global, text: &str) -> Result<Value, AllocError>
+    requires { IsReadableText text.now }
+    ensures { IfOk result (λ tree. read text.now ≡ Some (view tree)) }
 {
-    let _seen = seen;
     match Value::from_str(alloc, text) {
         Ok(tree) => Ok(tree),
         Err(error) => {
@@ -193,7 +208,6 @@ fn body_of_tree(alloc: Global, id: &RequestId, tree: Value) -> Result<String, Al
         MeansAgain (response id.now (Ok (view tree))) (string_bytes body)) }
 {
     let text = tree.to_string(alloc)?;
-    let seen = Snapshot::of(&tree);
     drop(tree);
-    result_body(alloc, id, text, seen)
+    result_body(alloc, id, text)
 }

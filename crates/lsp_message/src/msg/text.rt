@@ -21,7 +21,6 @@ use crate::msg::{Message, Notification, Request, RequestId, Response, ResponseEr
 use serde_json::Value;
 use std::alloc::{AllocError, Global};
 use std::fmt::Write as _;
-use std::snapshot::Snapshot;
 
 // Room for the text of a message with few params, which then grows in no step.
 const USUAL_LENGTH: usize = 256;
@@ -235,19 +234,13 @@ fn push_result_text(
     Ok(())
 }
 
-// The content part of a response whose result has this text. Clauses alone see its tree.
-pub(super) fn result_body(
-    alloc: Global,
-    id: &RequestId,
-    text: String,
-    tree: Snapshot<Value>,
-) -> Result<String, AllocError>
-    requires { IsValueText (view tree.value) (string_bytes text) }
-    ensures text { IfOk result (λ s.
-        IsBodyOf (response id.now (Ok (view tree.value))) (string_bytes s)) }
-    ensures reads_back { IfOk result (λ s. MeansAgain (response id.now (Ok (view tree.value))) (string_bytes s)) }
+// The content part of a response whose result has this text.
+pub(super) fn result_body(alloc: Global, id: &RequestId, text: String) -> Result<String, AllocError>
+    ensures text { IfOk result (λ s. (tree : Data) → IsValueText tree (string_bytes text)
+        → IsBodyOf (response id.now (Ok tree)) (string_bytes s)) }
+    ensures reads_back { IfOk result (λ s. (tree : Data) → IsValueText tree (string_bytes text)
+        → MeansAgain (response id.now (Ok tree)) (string_bytes s)) }
 {
-    let _tree = tree;
     let mut out = String::with_capacity(alloc, USUAL_LENGTH)?;
     push_result_text(&mut out, alloc, "{\"jsonrpc\":\"2.0\",", id, text)?;
     Ok(out)
