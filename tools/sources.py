@@ -271,7 +271,8 @@ def named_type(written):
         return "Unit", ""
     if written.startswith("("):
         return f"Tuple{written.count(',') + 1}", written
-    return re.match(r"&?(\w+)(.*)", written).groups()
+    name, rest = re.match(r"&?(\w+)(.*)", written).groups()
+    return name[0].upper() + name[1:], rest
 
 
 def without_generics(head):

@@ -8,6 +8,6 @@ use Rattle.lsp_types.specs.Json.{object_of}
 -- what shows the client what is wrong with a document (LSP 3.17, "PublishDiagnostics Notification")
 abbrev pub publishes : {P : Type 0} → List ℕ → Option ℤ → Data → Act P
 publishes uri version diagnostics = tells (codes "textDocument/publishDiagnostics") (object_of (
-    (codes "uri", Some (string uri))
-    ∷ (codes "version", option_map (λ z. number (of_integer z)) version)
-    ∷ (codes "diagnostics", Some diagnostics) ∷ []))
+    (codes "diagnostics", Some diagnostics)
+    ∷ (codes "uri", Some (string uri))
+    ∷ (codes "version", option_map (λ z. number (of_integer z)) version) ∷ []))

@@ -4,5 +4,6 @@ pub mod Json
 pub mod Offers
 pub mod Reads
 pub mod Symbols
+pub mod Texts
 pub mod Tokens
 pub mod Written

@@ -14,12 +14,12 @@ use Rattle.lsp_types.specs.declared.symbols.SymbolTag.{SymbolTag}
 -- a place in a text
 abbrev pub position : Position → Data
 position it = object_of (
-    (codes "line", Some (number (unsigned it.line)))
-    ∷ (codes "character", Some (number (unsigned it.character))) ∷ [])
+    (codes "character", Some (number (unsigned it.character)))
+    ∷ (codes "line", Some (number (unsigned it.line))) ∷ [])
 
 -- a part of a text
 abbrev pub range : Range → Data
-range it = object_of ((codes "start", Some (position it.start)) ∷ (codes "end", Some (position it.end)) ∷ [])
+range it = object_of ((codes "end", Some (position it.end)) ∷ (codes "start", Some (position it.start)) ∷ [])
 
 -- a change of a document
 abbrev pub content_change : Change → Data
@@ -28,18 +28,18 @@ content_change it = object_of ((codes "range", option_map range it.range) ∷ (c
 -- a symbol, with what those inside it stand for
 abbrev pub symbol_with : {A : Type 0} → DocumentSymbol-F A → List Data → Data
 symbol_with it children = object_of (
-    (codes "name", Some (string (string_bytes it.name)))
+    (codes "children", Some (array (items_of children)))
+    ∷ (codes "deprecated", option_map boolean it.deprecated)
     ∷ (codes "detail", option_map (λ text. string (string_bytes text)) it.detail)
     ∷ (codes "kind", Some (number (unsigned it.kind.0)))
+    ∷ (codes "name", Some (string (string_bytes it.name)))
+    ∷ (codes "range", Some (range it.range))
+    ∷ (codes "selectionRange", Some (range it.selection_range))
     ∷ (
       codes "tags",
       option_map (λ tags. array (items_of (map (λ (tag : SymbolTag). number (unsigned tag.0))
           tags.items))) it.tags,
-    )
-    ∷ (codes "deprecated", option_map boolean it.deprecated)
-    ∷ (codes "range", Some (range it.range))
-    ∷ (codes "selectionRange", Some (range it.selection_range))
-    ∷ (codes "children", Some (array (items_of children))) ∷ [])
+    ) ∷ [])
 
 -- a symbol, of which each inside it is already what it stands for
 abbrev pub symbol_step : DocumentSymbol-F Data → Data

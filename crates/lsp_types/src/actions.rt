@@ -9,10 +9,12 @@ ghost use Rattle.lsp_types.specs.Reads.{Beside, IfFits, IsObject, IsWithin, None
 use crate::diagnostics::Diagnostic;
 use crate::documents::TextDocumentIdentifier;
 use crate::edits::WorkspaceEdit;
-use crate::json::{FromJson, Members, Misfit, Object, ToJson, fitting, number_within};
+use crate::json::{
+    FromJson, Members, Misfit, Object, ToJson, fitting, number_within, write_member, write_some,
+};
 use crate::progress::ProgressToken;
 use crate::workspace::Command;
-use lsp_json::JsonRef;
+use lsp_json::{JsonRef, JsonWriteError, JsonWriter};
 use lsp_text::Range;
 use serde_json::Value;
 use std::alloc::{AllocError, Global};
@@ -36,19 +38,19 @@ pub struct CodeActionParams {
 
 impl ToJson for CodeActionParams {
     ghost stands = { λ it. object_of (
-        (codes "textDocument", Some (⟦<TextDocumentIdentifier as ToJson>⟧.stands it.text_document))
+        (codes "context", Some (⟦<CodeActionContext as ToJson>⟧.stands it.context))
+        ∷ (codes "partialResultToken", option_map ⟦<ProgressToken as ToJson>⟧.stands it.partial_result_token)
         ∷ (codes "range", Some (⟦<Range as ToJson>⟧.stands it.range))
-        ∷ (codes "context", Some (⟦<CodeActionContext as ToJson>⟧.stands it.context))
-        ∷ (codes "workDoneToken", option_map ⟦<ProgressToken as ToJson>⟧.stands it.work_done_token)
-        ∷ (codes "partialResultToken", option_map ⟦<ProgressToken as ToJson>⟧.stands it.partial_result_token) ∷ []) };
+        ∷ (codes "textDocument", Some (⟦<TextDocumentIdentifier as ToJson>⟧.stands it.text_document))
+        ∷ (codes "workDoneToken", option_map ⟦<ProgressToken as ToJson>⟧.stands it.work_done_token) ∷ []) };
 
     fn to_json(&self, alloc: Global) -> Result<Value, AllocError> {
         Object::new(alloc)
-            .member("textDocument", &self.text_document)
-            .member("range", &self.range)
             .member("context", &self.context)
-            .some("workDoneToken", &self.work_done_token)
             .some("partialResultToken", &self.partial_result_token)
+            .member("range", &self.range)
+            .member("textDocument", &self.text_document)
+            .some("workDoneToken", &self.work_done_token)
             .end()
     }
 }
@@ -186,6 +188,12 @@ impl ToJson for CodeActionDisabled {
     fn to_json(&self, alloc: Global) -> Result<Value, AllocError> {
         Object::new(alloc).member("reason", &self.reason).end()
     }
+
+    fn write_json(&self, alloc: Global, out: &mut JsonWriter) -> Result<(), JsonWriteError> {
+        out.begin_object()?;
+        write_member(alloc, out, "reason", &self.reason)?;
+        out.end_object()
+    }
 }
 
 impl FromJson for CodeActionDisabled {
@@ -261,27 +269,44 @@ impl CodeAction {
 
 impl ToJson for CodeAction {
     ghost stands = { λ it. object_with (
-        (codes "title", Some (⟦<String as ToJson>⟧.stands it.title))
-        ∷ (codes "kind", option_map ⟦<String as ToJson>⟧.stands it.kind)
+        (codes "command", option_map ⟦<Command as ToJson>⟧.stands it.command)
+        ∷ (codes "data", option_map ⟦<Value as ToJson>⟧.stands it.«data»)
         ∷ (codes "diagnostics", option_map ⟦<Vec<Diagnostic> as ToJson>⟧.stands it.diagnostics)
-        ∷ (codes "isPreferred", option_map ⟦<bool as ToJson>⟧.stands it.is_preferred)
         ∷ (codes "disabled", option_map ⟦<CodeActionDisabled as ToJson>⟧.stands it.disabled)
         ∷ (codes "edit", option_map ⟦<WorkspaceEdit as ToJson>⟧.stands it.edit)
-        ∷ (codes "command", option_map ⟦<Command as ToJson>⟧.stands it.command)
-        ∷ (codes "data", option_map ⟦<Value as ToJson>⟧.stands it.«data») ∷ []) (option_map view it.more) };
+        ∷ (codes "isPreferred", option_map ⟦<bool as ToJson>⟧.stands it.is_preferred)
+        ∷ (codes "kind", option_map ⟦<String as ToJson>⟧.stands it.kind)
+        ∷ (codes "title", Some (⟦<String as ToJson>⟧.stands it.title)) ∷ []) (option_map view it.more) };
 
     fn to_json(&self, alloc: Global) -> Result<Value, AllocError> {
         Object::new(alloc)
-            .member("title", &self.title)
-            .some("kind", &self.kind)
-            .some("diagnostics", &self.diagnostics)
-            .some("isPreferred", &self.is_preferred)
-            .some("disabled", &self.disabled)
-            .some("edit", &self.edit)
             .some("command", &self.command)
             .some("data", &self.data)
+            .some("diagnostics", &self.diagnostics)
+            .some("disabled", &self.disabled)
+            .some("edit", &self.edit)
+            .some("isPreferred", &self.is_preferred)
+            .some("kind", &self.kind)
+            .member("title", &self.title)
             .rest(&self.more)
             .end()
+    }
+
+    fn write_json(&self, alloc: Global, out: &mut JsonWriter) -> Result<(), JsonWriteError> {
+        if self.more.is_some() {
+            let tree = self.to_json(alloc)?;
+            return out.value(&tree);
+        }
+        out.begin_object()?;
+        write_some(alloc, out, "command", &self.command)?;
+        write_some(alloc, out, "data", &self.data)?;
+        write_some(alloc, out, "diagnostics", &self.diagnostics)?;
+        write_some(alloc, out, "disabled", &self.disabled)?;
+        write_some(alloc, out, "edit", &self.edit)?;
+        write_some(alloc, out, "isPreferred", &self.is_preferred)?;
+        write_some(alloc, out, "kind", &self.kind)?;
+        write_member(alloc, out, "title", &self.title)?;
+        out.end_object()
     }
 }
 
@@ -368,6 +393,13 @@ impl ToJson for CodeActionOrCommand {
         match self {
             CodeActionOrCommand::Command(it) => it.to_json(alloc),
             CodeActionOrCommand::Action(it) => it.to_json(alloc),
+        }
+    }
+
+    fn write_json(&self, alloc: Global, out: &mut JsonWriter) -> Result<(), JsonWriteError> {
+        match self {
+            CodeActionOrCommand::Command(it) => it.write_json(alloc, out),
+            CodeActionOrCommand::Action(it) => it.write_json(alloc, out),
         }
     }
 }

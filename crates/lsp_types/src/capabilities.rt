@@ -7,8 +7,10 @@ ghost use Rattle.lsp_types.specs.Json.{object_of, object_with};
 ghost use Rattle.lsp_types.specs.Offers.{NumberOr, Offered, Options};
 ghost use Rattle.lsp_types.specs.Reads.{Beside, IsObject, IsWithin, NoneReads, Optional, Required, ◌and◌};
 
-use crate::json::{FromJson, Members, Misfit, Object, ToJson, fitting, number_within};
-use lsp_json::JsonRef;
+use crate::json::{
+    FromJson, Members, Misfit, Object, ToJson, fitting, number_within, write_member, write_some,
+};
+use lsp_json::{JsonRef, JsonWriteError, JsonWriter};
 use serde_json::Value;
 use std::alloc::{AllocError, Global};
 
@@ -178,96 +180,240 @@ impl Default for ServerCapabilities {
 
 impl ToJson for ServerCapabilities {
     ghost stands = { λ it. object_with (
-        (codes "positionEncoding", option_map ⟦<String as ToJson>⟧.stands it.position_encoding)
-        ∷ (codes "textDocumentSync", option_map ⟦<TextDocumentSyncOptions as ToJson>⟧.stands it.text_document_sync)
-        ∷ (codes "notebookDocumentSync", option_map ⟦<Value as ToJson>⟧.stands it.notebook_document_sync)
-        ∷ (codes "completionProvider", option_map ⟦<CompletionOptions as ToJson>⟧.stands it.completion_provider)
-        ∷ (codes "hoverProvider", option_map ⟦<bool as ToJson>⟧.stands it.hover_provider)
-        ∷ (codes "signatureHelpProvider", option_map ⟦<SignatureHelpOptions as ToJson>⟧.stands it.signature_help_provider)
-        ∷ (codes "declarationProvider", option_map ⟦<bool as ToJson>⟧.stands it.declaration_provider)
-        ∷ (codes "definitionProvider", option_map ⟦<bool as ToJson>⟧.stands it.definition_provider)
-        ∷ (codes "typeDefinitionProvider", option_map ⟦<bool as ToJson>⟧.stands it.type_definition_provider)
-        ∷ (codes "implementationProvider", option_map ⟦<bool as ToJson>⟧.stands it.implementation_provider)
-        ∷ (codes "referencesProvider", option_map ⟦<bool as ToJson>⟧.stands it.references_provider)
-        ∷ (codes "documentHighlightProvider", option_map ⟦<bool as ToJson>⟧.stands it.document_highlight_provider)
-        ∷ (codes "documentSymbolProvider", option_map ⟦<bool as ToJson>⟧.stands it.document_symbol_provider)
+        (codes "callHierarchyProvider", option_map ⟦<bool as ToJson>⟧.stands it.call_hierarchy_provider)
         ∷ (codes "codeActionProvider", option_map ⟦<CodeActionOptions as ToJson>⟧.stands it.code_action_provider)
         ∷ (codes "codeLensProvider", option_map ⟦<CodeLensOptions as ToJson>⟧.stands it.code_lens_provider)
-        ∷ (codes "documentLinkProvider", option_map ⟦<DocumentLinkOptions as ToJson>⟧.stands it.document_link_provider)
         ∷ (codes "colorProvider", option_map ⟦<bool as ToJson>⟧.stands it.color_provider)
-        ∷ (codes "documentFormattingProvider", option_map ⟦<bool as ToJson>⟧.stands it.document_formatting_provider)
-        ∷ (codes "documentRangeFormattingProvider", option_map ⟦<bool as ToJson>⟧.stands it.document_range_formatting_provider)
-        ∷ (codes "documentOnTypeFormattingProvider", option_map ⟦<DocumentOnTypeFormattingOptions as ToJson>⟧.stands it.document_on_type_formatting_provider)
-        ∷ (codes "renameProvider", option_map ⟦<RenameOptions as ToJson>⟧.stands it.rename_provider)
-        ∷ (codes "foldingRangeProvider", option_map ⟦<bool as ToJson>⟧.stands it.folding_range_provider)
-        ∷ (codes "selectionRangeProvider", option_map ⟦<bool as ToJson>⟧.stands it.selection_range_provider)
-        ∷ (codes "executeCommandProvider", option_map ⟦<ExecuteCommandOptions as ToJson>⟧.stands it.execute_command_provider)
-        ∷ (codes "callHierarchyProvider", option_map ⟦<bool as ToJson>⟧.stands it.call_hierarchy_provider)
-        ∷ (codes "linkedEditingRangeProvider", option_map ⟦<bool as ToJson>⟧.stands it.linked_editing_range_provider)
-        ∷ (codes "semanticTokensProvider", option_map ⟦<SemanticTokensOptions as ToJson>⟧.stands it.semantic_tokens_provider)
-        ∷ (codes "monikerProvider", option_map ⟦<bool as ToJson>⟧.stands it.moniker_provider)
-        ∷ (codes "typeHierarchyProvider", option_map ⟦<bool as ToJson>⟧.stands it.type_hierarchy_provider)
-        ∷ (codes "inlineValueProvider", option_map ⟦<bool as ToJson>⟧.stands it.inline_value_provider)
-        ∷ (codes "inlayHintProvider", option_map ⟦<bool as ToJson>⟧.stands it.inlay_hint_provider)
+        ∷ (codes "completionProvider", option_map ⟦<CompletionOptions as ToJson>⟧.stands it.completion_provider)
+        ∷ (codes "declarationProvider", option_map ⟦<bool as ToJson>⟧.stands it.declaration_provider)
+        ∷ (codes "definitionProvider", option_map ⟦<bool as ToJson>⟧.stands it.definition_provider)
         ∷ (codes "diagnosticProvider", option_map ⟦<DiagnosticOptions as ToJson>⟧.stands it.diagnostic_provider)
-        ∷ (codes "workspaceSymbolProvider", option_map ⟦<bool as ToJson>⟧.stands it.workspace_symbol_provider)
+        ∷ (codes "documentFormattingProvider", option_map ⟦<bool as ToJson>⟧.stands it.document_formatting_provider)
+        ∷ (codes "documentHighlightProvider", option_map ⟦<bool as ToJson>⟧.stands it.document_highlight_provider)
+        ∷ (codes "documentLinkProvider", option_map ⟦<DocumentLinkOptions as ToJson>⟧.stands it.document_link_provider)
+        ∷ (codes "documentOnTypeFormattingProvider", option_map ⟦<DocumentOnTypeFormattingOptions as ToJson>⟧.stands it.document_on_type_formatting_provider)
+        ∷ (codes "documentRangeFormattingProvider", option_map ⟦<bool as ToJson>⟧.stands it.document_range_formatting_provider)
+        ∷ (codes "documentSymbolProvider", option_map ⟦<bool as ToJson>⟧.stands it.document_symbol_provider)
+        ∷ (codes "executeCommandProvider", option_map ⟦<ExecuteCommandOptions as ToJson>⟧.stands it.execute_command_provider)
+        ∷ (codes "experimental", option_map ⟦<Value as ToJson>⟧.stands it.experimental)
+        ∷ (codes "foldingRangeProvider", option_map ⟦<bool as ToJson>⟧.stands it.folding_range_provider)
+        ∷ (codes "hoverProvider", option_map ⟦<bool as ToJson>⟧.stands it.hover_provider)
+        ∷ (codes "implementationProvider", option_map ⟦<bool as ToJson>⟧.stands it.implementation_provider)
+        ∷ (codes "inlayHintProvider", option_map ⟦<bool as ToJson>⟧.stands it.inlay_hint_provider)
+        ∷ (codes "inlineValueProvider", option_map ⟦<bool as ToJson>⟧.stands it.inline_value_provider)
+        ∷ (codes "linkedEditingRangeProvider", option_map ⟦<bool as ToJson>⟧.stands it.linked_editing_range_provider)
+        ∷ (codes "monikerProvider", option_map ⟦<bool as ToJson>⟧.stands it.moniker_provider)
+        ∷ (codes "notebookDocumentSync", option_map ⟦<Value as ToJson>⟧.stands it.notebook_document_sync)
+        ∷ (codes "positionEncoding", option_map ⟦<String as ToJson>⟧.stands it.position_encoding)
+        ∷ (codes "referencesProvider", option_map ⟦<bool as ToJson>⟧.stands it.references_provider)
+        ∷ (codes "renameProvider", option_map ⟦<RenameOptions as ToJson>⟧.stands it.rename_provider)
+        ∷ (codes "selectionRangeProvider", option_map ⟦<bool as ToJson>⟧.stands it.selection_range_provider)
+        ∷ (codes "semanticTokensProvider", option_map ⟦<SemanticTokensOptions as ToJson>⟧.stands it.semantic_tokens_provider)
+        ∷ (codes "signatureHelpProvider", option_map ⟦<SignatureHelpOptions as ToJson>⟧.stands it.signature_help_provider)
+        ∷ (codes "textDocumentSync", option_map ⟦<TextDocumentSyncOptions as ToJson>⟧.stands it.text_document_sync)
+        ∷ (codes "typeDefinitionProvider", option_map ⟦<bool as ToJson>⟧.stands it.type_definition_provider)
+        ∷ (codes "typeHierarchyProvider", option_map ⟦<bool as ToJson>⟧.stands it.type_hierarchy_provider)
         ∷ (codes "workspace", option_map ⟦<WorkspaceOptions as ToJson>⟧.stands it.workspace)
-        ∷ (codes "experimental", option_map ⟦<Value as ToJson>⟧.stands it.experimental) ∷ []) (option_map view it.more) };
+        ∷ (codes "workspaceSymbolProvider", option_map ⟦<bool as ToJson>⟧.stands it.workspace_symbol_provider) ∷ []) (option_map view it.more) };
 
     fn to_json(&self, alloc: Global) -> Result<Value, AllocError> {
         Object::new(alloc)
-            .some("positionEncoding", &self.position_encoding)
-            .some("textDocumentSync", &self.text_document_sync)
-            .some("notebookDocumentSync", &self.notebook_document_sync)
-            .some("completionProvider", &self.completion_provider)
-            .some("hoverProvider", &self.hover_provider)
-            .some("signatureHelpProvider", &self.signature_help_provider)
-            .some("declarationProvider", &self.declaration_provider)
-            .some("definitionProvider", &self.definition_provider)
-            .some("typeDefinitionProvider", &self.type_definition_provider)
-            .some("implementationProvider", &self.implementation_provider)
-            .some("referencesProvider", &self.references_provider)
-            .some(
-                "documentHighlightProvider",
-                &self.document_highlight_provider,
-            )
-            .some("documentSymbolProvider", &self.document_symbol_provider)
+            .some("callHierarchyProvider", &self.call_hierarchy_provider)
             .some("codeActionProvider", &self.code_action_provider)
             .some("codeLensProvider", &self.code_lens_provider)
-            .some("documentLinkProvider", &self.document_link_provider)
             .some("colorProvider", &self.color_provider)
+            .some("completionProvider", &self.completion_provider)
+            .some("declarationProvider", &self.declaration_provider)
+            .some("definitionProvider", &self.definition_provider)
+            .some("diagnosticProvider", &self.diagnostic_provider)
             .some(
                 "documentFormattingProvider",
                 &self.document_formatting_provider,
             )
             .some(
-                "documentRangeFormattingProvider",
-                &self.document_range_formatting_provider,
+                "documentHighlightProvider",
+                &self.document_highlight_provider,
             )
+            .some("documentLinkProvider", &self.document_link_provider)
             .some(
                 "documentOnTypeFormattingProvider",
                 &self.document_on_type_formatting_provider,
             )
-            .some("renameProvider", &self.rename_provider)
-            .some("foldingRangeProvider", &self.folding_range_provider)
-            .some("selectionRangeProvider", &self.selection_range_provider)
+            .some(
+                "documentRangeFormattingProvider",
+                &self.document_range_formatting_provider,
+            )
+            .some("documentSymbolProvider", &self.document_symbol_provider)
             .some("executeCommandProvider", &self.execute_command_provider)
-            .some("callHierarchyProvider", &self.call_hierarchy_provider)
+            .some("experimental", &self.experimental)
+            .some("foldingRangeProvider", &self.folding_range_provider)
+            .some("hoverProvider", &self.hover_provider)
+            .some("implementationProvider", &self.implementation_provider)
+            .some("inlayHintProvider", &self.inlay_hint_provider)
+            .some("inlineValueProvider", &self.inline_value_provider)
             .some(
                 "linkedEditingRangeProvider",
                 &self.linked_editing_range_provider,
             )
-            .some("semanticTokensProvider", &self.semantic_tokens_provider)
             .some("monikerProvider", &self.moniker_provider)
+            .some("notebookDocumentSync", &self.notebook_document_sync)
+            .some("positionEncoding", &self.position_encoding)
+            .some("referencesProvider", &self.references_provider)
+            .some("renameProvider", &self.rename_provider)
+            .some("selectionRangeProvider", &self.selection_range_provider)
+            .some("semanticTokensProvider", &self.semantic_tokens_provider)
+            .some("signatureHelpProvider", &self.signature_help_provider)
+            .some("textDocumentSync", &self.text_document_sync)
+            .some("typeDefinitionProvider", &self.type_definition_provider)
             .some("typeHierarchyProvider", &self.type_hierarchy_provider)
-            .some("inlineValueProvider", &self.inline_value_provider)
-            .some("inlayHintProvider", &self.inlay_hint_provider)
-            .some("diagnosticProvider", &self.diagnostic_provider)
-            .some("workspaceSymbolProvider", &self.workspace_symbol_provider)
             .some("workspace", &self.workspace)
-            .some("experimental", &self.experimental)
+            .some("workspaceSymbolProvider", &self.workspace_symbol_provider)
             .rest(&self.more)
             .end()
+    }
+
+    fn write_json(&self, alloc: Global, out: &mut JsonWriter) -> Result<(), JsonWriteError> {
+        if self.more.is_some() {
+            let tree = self.to_json(alloc)?;
+            return out.value(&tree);
+        }
+        out.begin_object()?;
+        write_some(
+            alloc,
+            out,
+            "callHierarchyProvider",
+            &self.call_hierarchy_provider,
+        )?;
+        write_some(alloc, out, "codeActionProvider", &self.code_action_provider)?;
+        write_some(alloc, out, "codeLensProvider", &self.code_lens_provider)?;
+        write_some(alloc, out, "colorProvider", &self.color_provider)?;
+        write_some(alloc, out, "completionProvider", &self.completion_provider)?;
+        write_some(
+            alloc,
+            out,
+            "declarationProvider",
+            &self.declaration_provider,
+        )?;
+        write_some(alloc, out, "definitionProvider", &self.definition_provider)?;
+        write_some(alloc, out, "diagnosticProvider", &self.diagnostic_provider)?;
+        write_some(
+            alloc,
+            out,
+            "documentFormattingProvider",
+            &self.document_formatting_provider,
+        )?;
+        write_some(
+            alloc,
+            out,
+            "documentHighlightProvider",
+            &self.document_highlight_provider,
+        )?;
+        write_some(
+            alloc,
+            out,
+            "documentLinkProvider",
+            &self.document_link_provider,
+        )?;
+        write_some(
+            alloc,
+            out,
+            "documentOnTypeFormattingProvider",
+            &self.document_on_type_formatting_provider,
+        )?;
+        write_some(
+            alloc,
+            out,
+            "documentRangeFormattingProvider",
+            &self.document_range_formatting_provider,
+        )?;
+        write_some(
+            alloc,
+            out,
+            "documentSymbolProvider",
+            &self.document_symbol_provider,
+        )?;
+        write_some(
+            alloc,
+            out,
+            "executeCommandProvider",
+            &self.execute_command_provider,
+        )?;
+        write_some(alloc, out, "experimental", &self.experimental)?;
+        write_some(
+            alloc,
+            out,
+            "foldingRangeProvider",
+            &self.folding_range_provider,
+        )?;
+        write_some(alloc, out, "hoverProvider", &self.hover_provider)?;
+        write_some(
+            alloc,
+            out,
+            "implementationProvider",
+            &self.implementation_provider,
+        )?;
+        write_some(alloc, out, "inlayHintProvider", &self.inlay_hint_provider)?;
+        write_some(
+            alloc,
+            out,
+            "inlineValueProvider",
+            &self.inline_value_provider,
+        )?;
+        write_some(
+            alloc,
+            out,
+            "linkedEditingRangeProvider",
+            &self.linked_editing_range_provider,
+        )?;
+        write_some(alloc, out, "monikerProvider", &self.moniker_provider)?;
+        write_some(
+            alloc,
+            out,
+            "notebookDocumentSync",
+            &self.notebook_document_sync,
+        )?;
+        write_some(alloc, out, "positionEncoding", &self.position_encoding)?;
+        write_some(alloc, out, "referencesProvider", &self.references_provider)?;
+        write_some(alloc, out, "renameProvider", &self.rename_provider)?;
+        write_some(
+            alloc,
+            out,
+            "selectionRangeProvider",
+            &self.selection_range_provider,
+        )?;
+        write_some(
+            alloc,
+            out,
+            "semanticTokensProvider",
+            &self.semantic_tokens_provider,
+        )?;
+        write_some(
+            alloc,
+            out,
+            "signatureHelpProvider",
+            &self.signature_help_provider,
+        )?;
+        write_some(alloc, out, "textDocumentSync", &self.text_document_sync)?;
+        write_some(
+            alloc,
+            out,
+            "typeDefinitionProvider",
+            &self.type_definition_provider,
+        )?;
+        write_some(
+            alloc,
+            out,
+            "typeHierarchyProvider",
+            &self.type_hierarchy_provider,
+        )?;
+        write_some(alloc, out, "workspace", &self.workspace)?;
+        write_some(
+            alloc,
+            out,
+            "workspaceSymbolProvider",
+            &self.workspace_symbol_provider,
+        )?;
+        out.end_object()
     }
 }
 
@@ -486,6 +632,10 @@ impl ToJson for TextDocumentSyncKind {
     fn to_json(&self, alloc: Global) -> Result<Value, AllocError> {
         self.0.to_json(alloc)
     }
+
+    fn write_json(&self, alloc: Global, out: &mut JsonWriter) -> Result<(), JsonWriteError> {
+        self.0.write_json(alloc, out)
+    }
 }
 
 impl FromJson for TextDocumentSyncKind {
@@ -563,20 +713,30 @@ impl Default for TextDocumentSyncOptions {
 
 impl ToJson for TextDocumentSyncOptions {
     ghost stands = { λ it. object_of (
-        (codes "openClose", option_map ⟦<bool as ToJson>⟧.stands it.open_close)
-        ∷ (codes "change", option_map ⟦<TextDocumentSyncKind as ToJson>⟧.stands it.change)
+        (codes "change", option_map ⟦<TextDocumentSyncKind as ToJson>⟧.stands it.change)
+        ∷ (codes "openClose", option_map ⟦<bool as ToJson>⟧.stands it.open_close)
+        ∷ (codes "save", option_map ⟦<SaveOptions as ToJson>⟧.stands it.save)
         ∷ (codes "willSave", option_map ⟦<bool as ToJson>⟧.stands it.will_save)
-        ∷ (codes "willSaveWaitUntil", option_map ⟦<bool as ToJson>⟧.stands it.will_save_wait_until)
-        ∷ (codes "save", option_map ⟦<SaveOptions as ToJson>⟧.stands it.save) ∷ []) };
+        ∷ (codes "willSaveWaitUntil", option_map ⟦<bool as ToJson>⟧.stands it.will_save_wait_until) ∷ []) };
 
     fn to_json(&self, alloc: Global) -> Result<Value, AllocError> {
         Object::new(alloc)
-            .some("openClose", &self.open_close)
             .some("change", &self.change)
+            .some("openClose", &self.open_close)
+            .some("save", &self.save)
             .some("willSave", &self.will_save)
             .some("willSaveWaitUntil", &self.will_save_wait_until)
-            .some("save", &self.save)
             .end()
+    }
+
+    fn write_json(&self, alloc: Global, out: &mut JsonWriter) -> Result<(), JsonWriteError> {
+        out.begin_object()?;
+        write_some(alloc, out, "change", &self.change)?;
+        write_some(alloc, out, "openClose", &self.open_close)?;
+        write_some(alloc, out, "save", &self.save)?;
+        write_some(alloc, out, "willSave", &self.will_save)?;
+        write_some(alloc, out, "willSaveWaitUntil", &self.will_save_wait_until)?;
+        out.end_object()
     }
 }
 
@@ -641,6 +801,12 @@ impl ToJson for SaveOptions {
             .some("includeText", &self.include_text)
             .end()
     }
+
+    fn write_json(&self, alloc: Global, out: &mut JsonWriter) -> Result<(), JsonWriteError> {
+        out.begin_object()?;
+        write_some(alloc, out, "includeText", &self.include_text)?;
+        out.end_object()
+    }
 }
 
 impl FromJson for SaveOptions {
@@ -698,20 +864,35 @@ impl Default for CompletionOptions {
 
 impl ToJson for CompletionOptions {
     ghost stands = { λ it. object_of (
-        (codes "triggerCharacters", option_map ⟦<Vec<String> as ToJson>⟧.stands it.trigger_characters)
-        ∷ (codes "resolveProvider", option_map ⟦<bool as ToJson>⟧.stands it.resolve_provider)
-        ∷ (codes "allCommitCharacters", option_map ⟦<Vec<String> as ToJson>⟧.stands it.all_commit_characters)
+        (codes "allCommitCharacters", option_map ⟦<Vec<String> as ToJson>⟧.stands it.all_commit_characters)
         ∷ (codes "completionItem", option_map ⟦<CompletionItemOptions as ToJson>⟧.stands it.completion_item)
+        ∷ (codes "resolveProvider", option_map ⟦<bool as ToJson>⟧.stands it.resolve_provider)
+        ∷ (codes "triggerCharacters", option_map ⟦<Vec<String> as ToJson>⟧.stands it.trigger_characters)
         ∷ (codes "workDoneProgress", option_map ⟦<bool as ToJson>⟧.stands it.work_done_progress) ∷ []) };
 
     fn to_json(&self, alloc: Global) -> Result<Value, AllocError> {
         Object::new(alloc)
-            .some("triggerCharacters", &self.trigger_characters)
-            .some("resolveProvider", &self.resolve_provider)
             .some("allCommitCharacters", &self.all_commit_characters)
             .some("completionItem", &self.completion_item)
+            .some("resolveProvider", &self.resolve_provider)
+            .some("triggerCharacters", &self.trigger_characters)
             .some("workDoneProgress", &self.work_done_progress)
             .end()
+    }
+
+    fn write_json(&self, alloc: Global, out: &mut JsonWriter) -> Result<(), JsonWriteError> {
+        out.begin_object()?;
+        write_some(
+            alloc,
+            out,
+            "allCommitCharacters",
+            &self.all_commit_characters,
+        )?;
+        write_some(alloc, out, "completionItem", &self.completion_item)?;
+        write_some(alloc, out, "resolveProvider", &self.resolve_provider)?;
+        write_some(alloc, out, "triggerCharacters", &self.trigger_characters)?;
+        write_some(alloc, out, "workDoneProgress", &self.work_done_progress)?;
+        out.end_object()
     }
 }
 
@@ -782,6 +963,17 @@ impl ToJson for CompletionItemOptions {
             .some("labelDetailsSupport", &self.label_details_support)
             .end()
     }
+
+    fn write_json(&self, alloc: Global, out: &mut JsonWriter) -> Result<(), JsonWriteError> {
+        out.begin_object()?;
+        write_some(
+            alloc,
+            out,
+            "labelDetailsSupport",
+            &self.label_details_support,
+        )?;
+        out.end_object()
+    }
 }
 
 impl FromJson for CompletionItemOptions {
@@ -836,16 +1028,29 @@ impl Default for SignatureHelpOptions {
 
 impl ToJson for SignatureHelpOptions {
     ghost stands = { λ it. object_of (
-        (codes "triggerCharacters", option_map ⟦<Vec<String> as ToJson>⟧.stands it.trigger_characters)
-        ∷ (codes "retriggerCharacters", option_map ⟦<Vec<String> as ToJson>⟧.stands it.retrigger_characters)
+        (codes "retriggerCharacters", option_map ⟦<Vec<String> as ToJson>⟧.stands it.retrigger_characters)
+        ∷ (codes "triggerCharacters", option_map ⟦<Vec<String> as ToJson>⟧.stands it.trigger_characters)
         ∷ (codes "workDoneProgress", option_map ⟦<bool as ToJson>⟧.stands it.work_done_progress) ∷ []) };
 
     fn to_json(&self, alloc: Global) -> Result<Value, AllocError> {
         Object::new(alloc)
-            .some("triggerCharacters", &self.trigger_characters)
             .some("retriggerCharacters", &self.retrigger_characters)
+            .some("triggerCharacters", &self.trigger_characters)
             .some("workDoneProgress", &self.work_done_progress)
             .end()
+    }
+
+    fn write_json(&self, alloc: Global, out: &mut JsonWriter) -> Result<(), JsonWriteError> {
+        out.begin_object()?;
+        write_some(
+            alloc,
+            out,
+            "retriggerCharacters",
+            &self.retrigger_characters,
+        )?;
+        write_some(alloc, out, "triggerCharacters", &self.trigger_characters)?;
+        write_some(alloc, out, "workDoneProgress", &self.work_done_progress)?;
+        out.end_object()
     }
 }
 
@@ -918,6 +1123,14 @@ impl ToJson for CodeActionOptions {
             .some("workDoneProgress", &self.work_done_progress)
             .end()
     }
+
+    fn write_json(&self, alloc: Global, out: &mut JsonWriter) -> Result<(), JsonWriteError> {
+        out.begin_object()?;
+        write_some(alloc, out, "codeActionKinds", &self.code_action_kinds)?;
+        write_some(alloc, out, "resolveProvider", &self.resolve_provider)?;
+        write_some(alloc, out, "workDoneProgress", &self.work_done_progress)?;
+        out.end_object()
+    }
 }
 
 impl FromJson for CodeActionOptions {
@@ -983,6 +1196,13 @@ impl ToJson for CodeLensOptions {
             .some("workDoneProgress", &self.work_done_progress)
             .end()
     }
+
+    fn write_json(&self, alloc: Global, out: &mut JsonWriter) -> Result<(), JsonWriteError> {
+        out.begin_object()?;
+        write_some(alloc, out, "resolveProvider", &self.resolve_provider)?;
+        write_some(alloc, out, "workDoneProgress", &self.work_done_progress)?;
+        out.end_object()
+    }
 }
 
 impl FromJson for CodeLensOptions {
@@ -1045,6 +1265,13 @@ impl ToJson for DocumentLinkOptions {
             .some("workDoneProgress", &self.work_done_progress)
             .end()
     }
+
+    fn write_json(&self, alloc: Global, out: &mut JsonWriter) -> Result<(), JsonWriteError> {
+        out.begin_object()?;
+        write_some(alloc, out, "resolveProvider", &self.resolve_provider)?;
+        write_some(alloc, out, "workDoneProgress", &self.work_done_progress)?;
+        out.end_object()
+    }
 }
 
 impl FromJson for DocumentLinkOptions {
@@ -1106,6 +1333,23 @@ impl ToJson for DocumentOnTypeFormattingOptions {
             .member("firstTriggerCharacter", &self.first_trigger_character)
             .some("moreTriggerCharacter", &self.more_trigger_character)
             .end()
+    }
+
+    fn write_json(&self, alloc: Global, out: &mut JsonWriter) -> Result<(), JsonWriteError> {
+        out.begin_object()?;
+        write_member(
+            alloc,
+            out,
+            "firstTriggerCharacter",
+            &self.first_trigger_character,
+        )?;
+        write_some(
+            alloc,
+            out,
+            "moreTriggerCharacter",
+            &self.more_trigger_character,
+        )?;
+        out.end_object()
     }
 }
 
@@ -1172,6 +1416,13 @@ impl ToJson for RenameOptions {
             .some("workDoneProgress", &self.work_done_progress)
             .end()
     }
+
+    fn write_json(&self, alloc: Global, out: &mut JsonWriter) -> Result<(), JsonWriteError> {
+        out.begin_object()?;
+        write_some(alloc, out, "prepareProvider", &self.prepare_provider)?;
+        write_some(alloc, out, "workDoneProgress", &self.work_done_progress)?;
+        out.end_object()
+    }
 }
 
 impl FromJson for RenameOptions {
@@ -1234,6 +1485,13 @@ impl ToJson for ExecuteCommandOptions {
             .some("workDoneProgress", &self.work_done_progress)
             .end()
     }
+
+    fn write_json(&self, alloc: Global, out: &mut JsonWriter) -> Result<(), JsonWriteError> {
+        out.begin_object()?;
+        write_member(alloc, out, "commands", &self.commands)?;
+        write_some(alloc, out, "workDoneProgress", &self.work_done_progress)?;
+        out.end_object()
+    }
 }
 
 impl FromJson for ExecuteCommandOptions {
@@ -1295,18 +1553,27 @@ impl SemanticTokensOptions {
 
 impl ToJson for SemanticTokensOptions {
     ghost stands = { λ it. object_of (
-        (codes "legend", Some (⟦<SemanticTokensLegend as ToJson>⟧.stands it.legend))
+        (codes "full", option_map ⟦<SemanticTokensFullOptions as ToJson>⟧.stands it.full)
+        ∷ (codes "legend", Some (⟦<SemanticTokensLegend as ToJson>⟧.stands it.legend))
         ∷ (codes "range", option_map ⟦<bool as ToJson>⟧.stands it.range)
-        ∷ (codes "full", option_map ⟦<SemanticTokensFullOptions as ToJson>⟧.stands it.full)
         ∷ (codes "workDoneProgress", option_map ⟦<bool as ToJson>⟧.stands it.work_done_progress) ∷ []) };
 
     fn to_json(&self, alloc: Global) -> Result<Value, AllocError> {
         Object::new(alloc)
+            .some("full", &self.full)
             .member("legend", &self.legend)
             .some("range", &self.range)
-            .some("full", &self.full)
             .some("workDoneProgress", &self.work_done_progress)
             .end()
+    }
+
+    fn write_json(&self, alloc: Global, out: &mut JsonWriter) -> Result<(), JsonWriteError> {
+        out.begin_object()?;
+        write_some(alloc, out, "full", &self.full)?;
+        write_member(alloc, out, "legend", &self.legend)?;
+        write_some(alloc, out, "range", &self.range)?;
+        write_some(alloc, out, "workDoneProgress", &self.work_done_progress)?;
+        out.end_object()
     }
 }
 
@@ -1366,6 +1633,12 @@ impl ToJson for SemanticTokensFullOptions {
     fn to_json(&self, alloc: Global) -> Result<Value, AllocError> {
         Object::new(alloc).some("delta", &self.delta).end()
     }
+
+    fn write_json(&self, alloc: Global, out: &mut JsonWriter) -> Result<(), JsonWriteError> {
+        out.begin_object()?;
+        write_some(alloc, out, "delta", &self.delta)?;
+        out.end_object()
+    }
 }
 
 impl FromJson for SemanticTokensFullOptions {
@@ -1394,14 +1667,21 @@ pub struct SemanticTokensLegend {
 
 impl ToJson for SemanticTokensLegend {
     ghost stands = { λ it. object_of (
-        (codes "tokenTypes", Some (⟦<Vec<String> as ToJson>⟧.stands it.token_types))
-        ∷ (codes "tokenModifiers", Some (⟦<Vec<String> as ToJson>⟧.stands it.token_modifiers)) ∷ []) };
+        (codes "tokenModifiers", Some (⟦<Vec<String> as ToJson>⟧.stands it.token_modifiers))
+        ∷ (codes "tokenTypes", Some (⟦<Vec<String> as ToJson>⟧.stands it.token_types)) ∷ []) };
 
     fn to_json(&self, alloc: Global) -> Result<Value, AllocError> {
         Object::new(alloc)
-            .member("tokenTypes", &self.token_types)
             .member("tokenModifiers", &self.token_modifiers)
+            .member("tokenTypes", &self.token_types)
             .end()
+    }
+
+    fn write_json(&self, alloc: Global, out: &mut JsonWriter) -> Result<(), JsonWriteError> {
+        out.begin_object()?;
+        write_member(alloc, out, "tokenModifiers", &self.token_modifiers)?;
+        write_member(alloc, out, "tokenTypes", &self.token_types)?;
+        out.end_object()
     }
 }
 
@@ -1466,16 +1746,35 @@ impl ToJson for DiagnosticOptions {
     ghost stands = { λ it. object_of (
         (codes "identifier", option_map ⟦<String as ToJson>⟧.stands it.identifier)
         ∷ (codes "interFileDependencies", Some (⟦<bool as ToJson>⟧.stands it.inter_file_dependencies))
-        ∷ (codes "workspaceDiagnostics", Some (⟦<bool as ToJson>⟧.stands it.workspace_diagnostics))
-        ∷ (codes "workDoneProgress", option_map ⟦<bool as ToJson>⟧.stands it.work_done_progress) ∷ []) };
+        ∷ (codes "workDoneProgress", option_map ⟦<bool as ToJson>⟧.stands it.work_done_progress)
+        ∷ (codes "workspaceDiagnostics", Some (⟦<bool as ToJson>⟧.stands it.workspace_diagnostics)) ∷ []) };
 
     fn to_json(&self, alloc: Global) -> Result<Value, AllocError> {
         Object::new(alloc)
             .some("identifier", &self.identifier)
             .member("interFileDependencies", &self.inter_file_dependencies)
-            .member("workspaceDiagnostics", &self.workspace_diagnostics)
             .some("workDoneProgress", &self.work_done_progress)
+            .member("workspaceDiagnostics", &self.workspace_diagnostics)
             .end()
+    }
+
+    fn write_json(&self, alloc: Global, out: &mut JsonWriter) -> Result<(), JsonWriteError> {
+        out.begin_object()?;
+        write_some(alloc, out, "identifier", &self.identifier)?;
+        write_member(
+            alloc,
+            out,
+            "interFileDependencies",
+            &self.inter_file_dependencies,
+        )?;
+        write_some(alloc, out, "workDoneProgress", &self.work_done_progress)?;
+        write_member(
+            alloc,
+            out,
+            "workspaceDiagnostics",
+            &self.workspace_diagnostics,
+        )?;
+        out.end_object()
     }
 }
 
@@ -1539,14 +1838,21 @@ impl Default for WorkspaceOptions {
 
 impl ToJson for WorkspaceOptions {
     ghost stands = { λ it. object_of (
-        (codes "workspaceFolders", option_map ⟦<WorkspaceFoldersServerCapabilities as ToJson>⟧.stands it.workspace_folders)
-        ∷ (codes "fileOperations", option_map ⟦<Value as ToJson>⟧.stands it.file_operations) ∷ []) };
+        (codes "fileOperations", option_map ⟦<Value as ToJson>⟧.stands it.file_operations)
+        ∷ (codes "workspaceFolders", option_map ⟦<WorkspaceFoldersServerCapabilities as ToJson>⟧.stands it.workspace_folders) ∷ []) };
 
     fn to_json(&self, alloc: Global) -> Result<Value, AllocError> {
         Object::new(alloc)
-            .some("workspaceFolders", &self.workspace_folders)
             .some("fileOperations", &self.file_operations)
+            .some("workspaceFolders", &self.workspace_folders)
             .end()
+    }
+
+    fn write_json(&self, alloc: Global, out: &mut JsonWriter) -> Result<(), JsonWriteError> {
+        out.begin_object()?;
+        write_some(alloc, out, "fileOperations", &self.file_operations)?;
+        write_some(alloc, out, "workspaceFolders", &self.workspace_folders)?;
+        out.end_object()
     }
 }
 
@@ -1601,14 +1907,26 @@ impl Default for WorkspaceFoldersServerCapabilities {
 
 impl ToJson for WorkspaceFoldersServerCapabilities {
     ghost stands = { λ it. object_of (
-        (codes "supported", option_map ⟦<bool as ToJson>⟧.stands it.supported)
-        ∷ (codes "changeNotifications", option_map ⟦<ChangeNotifications as ToJson>⟧.stands it.change_notifications) ∷ []) };
+        (codes "changeNotifications", option_map ⟦<ChangeNotifications as ToJson>⟧.stands it.change_notifications)
+        ∷ (codes "supported", option_map ⟦<bool as ToJson>⟧.stands it.supported) ∷ []) };
 
     fn to_json(&self, alloc: Global) -> Result<Value, AllocError> {
         Object::new(alloc)
-            .some("supported", &self.supported)
             .some("changeNotifications", &self.change_notifications)
+            .some("supported", &self.supported)
             .end()
+    }
+
+    fn write_json(&self, alloc: Global, out: &mut JsonWriter) -> Result<(), JsonWriteError> {
+        out.begin_object()?;
+        write_some(
+            alloc,
+            out,
+            "changeNotifications",
+            &self.change_notifications,
+        )?;
+        write_some(alloc, out, "supported", &self.supported)?;
+        out.end_object()
     }
 }
 
@@ -1660,6 +1978,13 @@ impl ToJson for ChangeNotifications {
         match self {
             ChangeNotifications::Wanted(it) => it.to_json(alloc),
             ChangeNotifications::Id(it) => it.to_json(alloc),
+        }
+    }
+
+    fn write_json(&self, alloc: Global, out: &mut JsonWriter) -> Result<(), JsonWriteError> {
+        match self {
+            ChangeNotifications::Wanted(it) => it.write_json(alloc, out),
+            ChangeNotifications::Id(it) => it.write_json(alloc, out),
         }
     }
 }

@@ -5,7 +5,7 @@ ghost use Rattle.serde_json.specs.Find.{as_str, of_integer};
 ghost use Rattle.lsp_types.specs.Reads.{IsInt};
 
 use crate::json::{FromJson, Misfit, ToJson, fitting};
-use lsp_json::JsonRef;
+use lsp_json::{JsonRef, JsonWriteError, JsonWriter};
 use serde_json::Value;
 use std::alloc::{AllocError, Global};
 
@@ -28,6 +28,13 @@ impl ToJson for NumberOrString {
         match self {
             NumberOrString::Number(number) => number.to_json(alloc),
             NumberOrString::String(text) => text.to_json(alloc),
+        }
+    }
+
+    fn write_json(&self, alloc: Global, out: &mut JsonWriter) -> Result<(), JsonWriteError> {
+        match self {
+            NumberOrString::Number(number) => number.write_json(alloc, out),
+            NumberOrString::String(text) => text.write_json(alloc, out),
         }
     }
 }
@@ -66,6 +73,13 @@ impl ToJson for MarkupKind {
         match self {
             MarkupKind::PlainText => Value::try_from_str(alloc, "plaintext"),
             MarkupKind::Markdown => Value::try_from_str(alloc, "markdown"),
+        }
+    }
+
+    fn write_json(&self, _alloc: Global, out: &mut JsonWriter) -> Result<(), JsonWriteError> {
+        match self {
+            MarkupKind::PlainText => out.str("plaintext"),
+            MarkupKind::Markdown => out.str("markdown"),
         }
     }
 }

@@ -9,10 +9,12 @@ ghost use Rattle.lsp_types.specs.Reads.{Beside, IfFits, IsObject, IsWithin, None
 use crate::documents::TextDocumentIdentifier;
 use crate::edits::TextEdit;
 use crate::hovers::Documentation;
-use crate::json::{FromJson, Members, Misfit, Object, ToJson, fitting, number_within};
+use crate::json::{
+    FromJson, Members, Misfit, Object, ToJson, fitting, number_within, write_member, write_some,
+};
 use crate::progress::ProgressToken;
 use crate::workspace::Command;
-use lsp_json::JsonRef;
+use lsp_json::{JsonRef, JsonWriteError, JsonWriter};
 use lsp_text::{Position, Range};
 use serde_json::Value;
 use std::alloc::{AllocError, Global};
@@ -80,6 +82,10 @@ impl ToJson for CompletionItemKind {
     fn to_json(&self, alloc: Global) -> Result<Value, AllocError> {
         self.0.to_json(alloc)
     }
+
+    fn write_json(&self, alloc: Global, out: &mut JsonWriter) -> Result<(), JsonWriteError> {
+        self.0.write_json(alloc, out)
+    }
 }
 
 impl FromJson for CompletionItemKind {
@@ -110,6 +116,10 @@ impl ToJson for InsertTextFormat {
     fn to_json(&self, alloc: Global) -> Result<Value, AllocError> {
         self.0.to_json(alloc)
     }
+
+    fn write_json(&self, alloc: Global, out: &mut JsonWriter) -> Result<(), JsonWriteError> {
+        self.0.write_json(alloc, out)
+    }
 }
 
 impl FromJson for InsertTextFormat {
@@ -137,6 +147,10 @@ impl ToJson for CompletionItemTag {
 
     fn to_json(&self, alloc: Global) -> Result<Value, AllocError> {
         self.0.to_json(alloc)
+    }
+
+    fn write_json(&self, alloc: Global, out: &mut JsonWriter) -> Result<(), JsonWriteError> {
+        self.0.write_json(alloc, out)
     }
 }
 
@@ -168,6 +182,10 @@ impl ToJson for InsertTextMode {
 
     fn to_json(&self, alloc: Global) -> Result<Value, AllocError> {
         self.0.to_json(alloc)
+    }
+
+    fn write_json(&self, alloc: Global, out: &mut JsonWriter) -> Result<(), JsonWriteError> {
+        self.0.write_json(alloc, out)
     }
 }
 
@@ -210,14 +228,21 @@ impl Default for CompletionItemLabelDetails {
 
 impl ToJson for CompletionItemLabelDetails {
     ghost stands = { λ it. object_of (
-        (codes "detail", option_map ⟦<String as ToJson>⟧.stands it.detail)
-        ∷ (codes "description", option_map ⟦<String as ToJson>⟧.stands it.description) ∷ []) };
+        (codes "description", option_map ⟦<String as ToJson>⟧.stands it.description)
+        ∷ (codes "detail", option_map ⟦<String as ToJson>⟧.stands it.detail) ∷ []) };
 
     fn to_json(&self, alloc: Global) -> Result<Value, AllocError> {
         Object::new(alloc)
-            .some("detail", &self.detail)
             .some("description", &self.description)
+            .some("detail", &self.detail)
             .end()
+    }
+
+    fn write_json(&self, alloc: Global, out: &mut JsonWriter) -> Result<(), JsonWriteError> {
+        out.begin_object()?;
+        write_some(alloc, out, "description", &self.description)?;
+        write_some(alloc, out, "detail", &self.detail)?;
+        out.end_object()
     }
 }
 
@@ -257,16 +282,24 @@ pub struct InsertReplaceEdit {
 
 impl ToJson for InsertReplaceEdit {
     ghost stands = { λ it. object_of (
-        (codes "newText", Some (⟦<String as ToJson>⟧.stands it.new_text))
-        ∷ (codes "insert", Some (⟦<Range as ToJson>⟧.stands it.insert))
+        (codes "insert", Some (⟦<Range as ToJson>⟧.stands it.insert))
+        ∷ (codes "newText", Some (⟦<String as ToJson>⟧.stands it.new_text))
         ∷ (codes "replace", Some (⟦<Range as ToJson>⟧.stands it.replace)) ∷ []) };
 
     fn to_json(&self, alloc: Global) -> Result<Value, AllocError> {
         Object::new(alloc)
-            .member("newText", &self.new_text)
             .member("insert", &self.insert)
+            .member("newText", &self.new_text)
             .member("replace", &self.replace)
             .end()
+    }
+
+    fn write_json(&self, alloc: Global, out: &mut JsonWriter) -> Result<(), JsonWriteError> {
+        out.begin_object()?;
+        write_member(alloc, out, "insert", &self.insert)?;
+        write_member(alloc, out, "newText", &self.new_text)?;
+        write_member(alloc, out, "replace", &self.replace)?;
+        out.end_object()
     }
 }
 
@@ -317,6 +350,13 @@ impl ToJson for CompletionTextEdit {
         match self {
             CompletionTextEdit::InsertReplace(it) => it.to_json(alloc),
             CompletionTextEdit::Edit(it) => it.to_json(alloc),
+        }
+    }
+
+    fn write_json(&self, alloc: Global, out: &mut JsonWriter) -> Result<(), JsonWriteError> {
+        match self {
+            CompletionTextEdit::InsertReplace(it) => it.write_json(alloc, out),
+            CompletionTextEdit::Edit(it) => it.write_json(alloc, out),
         }
     }
 }
@@ -442,49 +482,82 @@ impl CompletionItem {
 
 impl ToJson for CompletionItem {
     ghost stands = { λ it. object_with (
-        (codes "label", Some (⟦<String as ToJson>⟧.stands it.label))
-        ∷ (codes "labelDetails", option_map ⟦<CompletionItemLabelDetails as ToJson>⟧.stands it.label_details)
-        ∷ (codes "kind", option_map ⟦<CompletionItemKind as ToJson>⟧.stands it.kind)
-        ∷ (codes "tags", option_map ⟦<Vec<CompletionItemTag> as ToJson>⟧.stands it.tags)
+        (codes "additionalTextEdits", option_map ⟦<Vec<TextEdit> as ToJson>⟧.stands it.additional_text_edits)
+        ∷ (codes "command", option_map ⟦<Command as ToJson>⟧.stands it.command)
+        ∷ (codes "commitCharacters", option_map ⟦<Vec<String> as ToJson>⟧.stands it.commit_characters)
+        ∷ (codes "data", option_map ⟦<Value as ToJson>⟧.stands it.«data»)
+        ∷ (codes "deprecated", option_map ⟦<bool as ToJson>⟧.stands it.deprecated)
         ∷ (codes "detail", option_map ⟦<String as ToJson>⟧.stands it.detail)
         ∷ (codes "documentation", option_map ⟦<Documentation as ToJson>⟧.stands it.documentation)
-        ∷ (codes "deprecated", option_map ⟦<bool as ToJson>⟧.stands it.deprecated)
-        ∷ (codes "preselect", option_map ⟦<bool as ToJson>⟧.stands it.preselect)
-        ∷ (codes "sortText", option_map ⟦<String as ToJson>⟧.stands it.sort_text)
         ∷ (codes "filterText", option_map ⟦<String as ToJson>⟧.stands it.filter_text)
         ∷ (codes "insertText", option_map ⟦<String as ToJson>⟧.stands it.insert_text)
         ∷ (codes "insertTextFormat", option_map ⟦<InsertTextFormat as ToJson>⟧.stands it.insert_text_format)
         ∷ (codes "insertTextMode", option_map ⟦<InsertTextMode as ToJson>⟧.stands it.insert_text_mode)
+        ∷ (codes "kind", option_map ⟦<CompletionItemKind as ToJson>⟧.stands it.kind)
+        ∷ (codes "label", Some (⟦<String as ToJson>⟧.stands it.label))
+        ∷ (codes "labelDetails", option_map ⟦<CompletionItemLabelDetails as ToJson>⟧.stands it.label_details)
+        ∷ (codes "preselect", option_map ⟦<bool as ToJson>⟧.stands it.preselect)
+        ∷ (codes "sortText", option_map ⟦<String as ToJson>⟧.stands it.sort_text)
+        ∷ (codes "tags", option_map ⟦<Vec<CompletionItemTag> as ToJson>⟧.stands it.tags)
         ∷ (codes "textEdit", option_map ⟦<CompletionTextEdit as ToJson>⟧.stands it.text_edit)
-        ∷ (codes "textEditText", option_map ⟦<String as ToJson>⟧.stands it.text_edit_text)
-        ∷ (codes "additionalTextEdits", option_map ⟦<Vec<TextEdit> as ToJson>⟧.stands it.additional_text_edits)
-        ∷ (codes "commitCharacters", option_map ⟦<Vec<String> as ToJson>⟧.stands it.commit_characters)
-        ∷ (codes "command", option_map ⟦<Command as ToJson>⟧.stands it.command)
-        ∷ (codes "data", option_map ⟦<Value as ToJson>⟧.stands it.«data») ∷ []) (option_map view it.more) };
+        ∷ (codes "textEditText", option_map ⟦<String as ToJson>⟧.stands it.text_edit_text) ∷ []) (option_map view it.more) };
 
     fn to_json(&self, alloc: Global) -> Result<Value, AllocError> {
         Object::new(alloc)
-            .member("label", &self.label)
-            .some("labelDetails", &self.label_details)
-            .some("kind", &self.kind)
-            .some("tags", &self.tags)
+            .some("additionalTextEdits", &self.additional_text_edits)
+            .some("command", &self.command)
+            .some("commitCharacters", &self.commit_characters)
+            .some("data", &self.data)
+            .some("deprecated", &self.deprecated)
             .some("detail", &self.detail)
             .some("documentation", &self.documentation)
-            .some("deprecated", &self.deprecated)
-            .some("preselect", &self.preselect)
-            .some("sortText", &self.sort_text)
             .some("filterText", &self.filter_text)
             .some("insertText", &self.insert_text)
             .some("insertTextFormat", &self.insert_text_format)
             .some("insertTextMode", &self.insert_text_mode)
+            .some("kind", &self.kind)
+            .member("label", &self.label)
+            .some("labelDetails", &self.label_details)
+            .some("preselect", &self.preselect)
+            .some("sortText", &self.sort_text)
+            .some("tags", &self.tags)
             .some("textEdit", &self.text_edit)
             .some("textEditText", &self.text_edit_text)
-            .some("additionalTextEdits", &self.additional_text_edits)
-            .some("commitCharacters", &self.commit_characters)
-            .some("command", &self.command)
-            .some("data", &self.data)
             .rest(&self.more)
             .end()
+    }
+
+    fn write_json(&self, alloc: Global, out: &mut JsonWriter) -> Result<(), JsonWriteError> {
+        if self.more.is_some() {
+            let tree = self.to_json(alloc)?;
+            return out.value(&tree);
+        }
+        out.begin_object()?;
+        write_some(
+            alloc,
+            out,
+            "additionalTextEdits",
+            &self.additional_text_edits,
+        )?;
+        write_some(alloc, out, "command", &self.command)?;
+        write_some(alloc, out, "commitCharacters", &self.commit_characters)?;
+        write_some(alloc, out, "data", &self.data)?;
+        write_some(alloc, out, "deprecated", &self.deprecated)?;
+        write_some(alloc, out, "detail", &self.detail)?;
+        write_some(alloc, out, "documentation", &self.documentation)?;
+        write_some(alloc, out, "filterText", &self.filter_text)?;
+        write_some(alloc, out, "insertText", &self.insert_text)?;
+        write_some(alloc, out, "insertTextFormat", &self.insert_text_format)?;
+        write_some(alloc, out, "insertTextMode", &self.insert_text_mode)?;
+        write_some(alloc, out, "kind", &self.kind)?;
+        write_member(alloc, out, "label", &self.label)?;
+        write_some(alloc, out, "labelDetails", &self.label_details)?;
+        write_some(alloc, out, "preselect", &self.preselect)?;
+        write_some(alloc, out, "sortText", &self.sort_text)?;
+        write_some(alloc, out, "tags", &self.tags)?;
+        write_some(alloc, out, "textEdit", &self.text_edit)?;
+        write_some(alloc, out, "textEditText", &self.text_edit_text)?;
+        out.end_object()
     }
 }
 
@@ -624,6 +697,13 @@ impl ToJson for EditRangeWithInsertReplace {
             .member("replace", &self.replace)
             .end()
     }
+
+    fn write_json(&self, alloc: Global, out: &mut JsonWriter) -> Result<(), JsonWriteError> {
+        out.begin_object()?;
+        write_member(alloc, out, "insert", &self.insert)?;
+        write_member(alloc, out, "replace", &self.replace)?;
+        out.end_object()
+    }
 }
 
 impl FromJson for EditRangeWithInsertReplace {
@@ -667,6 +747,13 @@ impl ToJson for CompletionEditRange {
         match self {
             CompletionEditRange::InsertReplace(it) => it.to_json(alloc),
             CompletionEditRange::Range(it) => it.to_json(alloc),
+        }
+    }
+
+    fn write_json(&self, alloc: Global, out: &mut JsonWriter) -> Result<(), JsonWriteError> {
+        match self {
+            CompletionEditRange::InsertReplace(it) => it.write_json(alloc, out),
+            CompletionEditRange::Range(it) => it.write_json(alloc, out),
         }
     }
 }
@@ -731,19 +818,29 @@ impl Default for CompletionItemDefaults {
 impl ToJson for CompletionItemDefaults {
     ghost stands = { λ it. object_of (
         (codes "commitCharacters", option_map ⟦<Vec<String> as ToJson>⟧.stands it.commit_characters)
+        ∷ (codes "data", option_map ⟦<Value as ToJson>⟧.stands it.«data»)
         ∷ (codes "editRange", option_map ⟦<CompletionEditRange as ToJson>⟧.stands it.edit_range)
         ∷ (codes "insertTextFormat", option_map ⟦<InsertTextFormat as ToJson>⟧.stands it.insert_text_format)
-        ∷ (codes "insertTextMode", option_map ⟦<InsertTextMode as ToJson>⟧.stands it.insert_text_mode)
-        ∷ (codes "data", option_map ⟦<Value as ToJson>⟧.stands it.«data») ∷ []) };
+        ∷ (codes "insertTextMode", option_map ⟦<InsertTextMode as ToJson>⟧.stands it.insert_text_mode) ∷ []) };
 
     fn to_json(&self, alloc: Global) -> Result<Value, AllocError> {
         Object::new(alloc)
             .some("commitCharacters", &self.commit_characters)
+            .some("data", &self.data)
             .some("editRange", &self.edit_range)
             .some("insertTextFormat", &self.insert_text_format)
             .some("insertTextMode", &self.insert_text_mode)
-            .some("data", &self.data)
             .end()
+    }
+
+    fn write_json(&self, alloc: Global, out: &mut JsonWriter) -> Result<(), JsonWriteError> {
+        out.begin_object()?;
+        write_some(alloc, out, "commitCharacters", &self.commit_characters)?;
+        write_some(alloc, out, "data", &self.data)?;
+        write_some(alloc, out, "editRange", &self.edit_range)?;
+        write_some(alloc, out, "insertTextFormat", &self.insert_text_format)?;
+        write_some(alloc, out, "insertTextMode", &self.insert_text_mode)?;
+        out.end_object()
     }
 }
 
@@ -826,13 +923,13 @@ pub struct CompletionContext {
 
 impl ToJson for CompletionContext {
     ghost stands = { λ it. object_of (
-        (codes "triggerKind", Some (⟦<CompletionTriggerKind as ToJson>⟧.stands it.trigger_kind))
-        ∷ (codes "triggerCharacter", option_map ⟦<String as ToJson>⟧.stands it.trigger_character) ∷ []) };
+        (codes "triggerCharacter", option_map ⟦<String as ToJson>⟧.stands it.trigger_character)
+        ∷ (codes "triggerKind", Some (⟦<CompletionTriggerKind as ToJson>⟧.stands it.trigger_kind)) ∷ []) };
 
     fn to_json(&self, alloc: Global) -> Result<Value, AllocError> {
         Object::new(alloc)
-            .member("triggerKind", &self.trigger_kind)
             .some("triggerCharacter", &self.trigger_character)
+            .member("triggerKind", &self.trigger_kind)
             .end()
     }
 }
@@ -878,19 +975,19 @@ pub struct CompletionParams {
 
 impl ToJson for CompletionParams {
     ghost stands = { λ it. object_of (
-        (codes "textDocument", Some (⟦<TextDocumentIdentifier as ToJson>⟧.stands it.text_document))
+        (codes "context", option_map ⟦<CompletionContext as ToJson>⟧.stands it.context)
+        ∷ (codes "partialResultToken", option_map ⟦<ProgressToken as ToJson>⟧.stands it.partial_result_token)
         ∷ (codes "position", Some (⟦<Position as ToJson>⟧.stands it.position))
-        ∷ (codes "context", option_map ⟦<CompletionContext as ToJson>⟧.stands it.context)
-        ∷ (codes "workDoneToken", option_map ⟦<ProgressToken as ToJson>⟧.stands it.work_done_token)
-        ∷ (codes "partialResultToken", option_map ⟦<ProgressToken as ToJson>⟧.stands it.partial_result_token) ∷ []) };
+        ∷ (codes "textDocument", Some (⟦<TextDocumentIdentifier as ToJson>⟧.stands it.text_document))
+        ∷ (codes "workDoneToken", option_map ⟦<ProgressToken as ToJson>⟧.stands it.work_done_token) ∷ []) };
 
     fn to_json(&self, alloc: Global) -> Result<Value, AllocError> {
         Object::new(alloc)
-            .member("textDocument", &self.text_document)
-            .member("position", &self.position)
             .some("context", &self.context)
-            .some("workDoneToken", &self.work_done_token)
             .some("partialResultToken", &self.partial_result_token)
+            .member("position", &self.position)
+            .member("textDocument", &self.text_document)
+            .some("workDoneToken", &self.work_done_token)
             .end()
     }
 }
@@ -974,6 +1071,14 @@ impl ToJson for CompletionList {
             .member("items", &self.items)
             .end()
     }
+
+    fn write_json(&self, alloc: Global, out: &mut JsonWriter) -> Result<(), JsonWriteError> {
+        out.begin_object()?;
+        write_member(alloc, out, "isIncomplete", &self.is_incomplete)?;
+        write_some(alloc, out, "itemDefaults", &self.item_defaults)?;
+        write_member(alloc, out, "items", &self.items)?;
+        out.end_object()
+    }
 }
 
 impl FromJson for CompletionList {
@@ -1023,6 +1128,13 @@ impl ToJson for CompletionResult {
         match self {
             CompletionResult::Items(it) => it.to_json(alloc),
             CompletionResult::List(it) => it.to_json(alloc),
+        }
+    }
+
+    fn write_json(&self, alloc: Global, out: &mut JsonWriter) -> Result<(), JsonWriteError> {
+        match self {
+            CompletionResult::Items(it) => it.write_json(alloc, out),
+            CompletionResult::List(it) => it.write_json(alloc, out),
         }
     }
 }

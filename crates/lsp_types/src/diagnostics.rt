@@ -7,8 +7,10 @@ ghost use Rattle.lsp_types.specs.Reads.{IsObject, IsWithin, Optional, Required, 
 
 use crate::choices::NumberOrString;
 use crate::documents::Location;
-use crate::json::{FromJson, Members, Misfit, Object, ToJson, number_within};
-use lsp_json::JsonRef;
+use crate::json::{
+    FromJson, Members, Misfit, Object, ToJson, number_within, write_member, write_some,
+};
+use lsp_json::{JsonRef, JsonWriteError, JsonWriter};
 use lsp_text::Range;
 use serde_json::Value;
 use std::alloc::{AllocError, Global};
@@ -33,6 +35,10 @@ impl ToJson for DiagnosticSeverity {
 
     fn to_json(&self, alloc: Global) -> Result<Value, AllocError> {
         self.0.to_json(alloc)
+    }
+
+    fn write_json(&self, alloc: Global, out: &mut JsonWriter) -> Result<(), JsonWriteError> {
+        self.0.write_json(alloc, out)
     }
 }
 
@@ -63,6 +69,10 @@ impl ToJson for DiagnosticTag {
 
     fn to_json(&self, alloc: Global) -> Result<Value, AllocError> {
         self.0.to_json(alloc)
+    }
+
+    fn write_json(&self, alloc: Global, out: &mut JsonWriter) -> Result<(), JsonWriteError> {
+        self.0.write_json(alloc, out)
     }
 }
 
@@ -96,6 +106,13 @@ impl ToJson for DiagnosticRelatedInformation {
             .member("location", &self.location)
             .member("message", &self.message)
             .end()
+    }
+
+    fn write_json(&self, alloc: Global, out: &mut JsonWriter) -> Result<(), JsonWriteError> {
+        out.begin_object()?;
+        write_member(alloc, out, "location", &self.location)?;
+        write_member(alloc, out, "message", &self.message)?;
+        out.end_object()
     }
 }
 
@@ -135,6 +152,12 @@ impl ToJson for CodeDescription {
 
     fn to_json(&self, alloc: Global) -> Result<Value, AllocError> {
         Object::new(alloc).member("href", &self.href).end()
+    }
+
+    fn write_json(&self, alloc: Global, out: &mut JsonWriter) -> Result<(), JsonWriteError> {
+        out.begin_object()?;
+        write_member(alloc, out, "href", &self.href)?;
+        out.end_object()
     }
 }
 
@@ -209,28 +232,42 @@ impl Diagnostic {
 
 impl ToJson for Diagnostic {
     ghost stands = { λ it. object_of (
-        (codes "range", Some (⟦<Range as ToJson>⟧.stands it.range))
-        ∷ (codes "severity", option_map ⟦<DiagnosticSeverity as ToJson>⟧.stands it.severity)
-        ∷ (codes "code", option_map ⟦<NumberOrString as ToJson>⟧.stands it.code)
+        (codes "code", option_map ⟦<NumberOrString as ToJson>⟧.stands it.code)
         ∷ (codes "codeDescription", option_map ⟦<CodeDescription as ToJson>⟧.stands it.code_description)
-        ∷ (codes "source", option_map ⟦<String as ToJson>⟧.stands it.source)
+        ∷ (codes "data", option_map ⟦<Value as ToJson>⟧.stands it.«data»)
         ∷ (codes "message", Some (⟦<String as ToJson>⟧.stands it.message))
-        ∷ (codes "tags", option_map ⟦<Vec<DiagnosticTag> as ToJson>⟧.stands it.tags)
+        ∷ (codes "range", Some (⟦<Range as ToJson>⟧.stands it.range))
         ∷ (codes "relatedInformation", option_map ⟦<Vec<DiagnosticRelatedInformation> as ToJson>⟧.stands it.related_information)
-        ∷ (codes "data", option_map ⟦<Value as ToJson>⟧.stands it.«data») ∷ []) };
+        ∷ (codes "severity", option_map ⟦<DiagnosticSeverity as ToJson>⟧.stands it.severity)
+        ∷ (codes "source", option_map ⟦<String as ToJson>⟧.stands it.source)
+        ∷ (codes "tags", option_map ⟦<Vec<DiagnosticTag> as ToJson>⟧.stands it.tags) ∷ []) };
 
     fn to_json(&self, alloc: Global) -> Result<Value, AllocError> {
         Object::new(alloc)
-            .member("range", &self.range)
-            .some("severity", &self.severity)
             .some("code", &self.code)
             .some("codeDescription", &self.code_description)
-            .some("source", &self.source)
-            .member("message", &self.message)
-            .some("tags", &self.tags)
-            .some("relatedInformation", &self.related_information)
             .some("data", &self.data)
+            .member("message", &self.message)
+            .member("range", &self.range)
+            .some("relatedInformation", &self.related_information)
+            .some("severity", &self.severity)
+            .some("source", &self.source)
+            .some("tags", &self.tags)
             .end()
+    }
+
+    fn write_json(&self, alloc: Global, out: &mut JsonWriter) -> Result<(), JsonWriteError> {
+        out.begin_object()?;
+        write_some(alloc, out, "code", &self.code)?;
+        write_some(alloc, out, "codeDescription", &self.code_description)?;
+        write_some(alloc, out, "data", &self.data)?;
+        write_member(alloc, out, "message", &self.message)?;
+        write_member(alloc, out, "range", &self.range)?;
+        write_some(alloc, out, "relatedInformation", &self.related_information)?;
+        write_some(alloc, out, "severity", &self.severity)?;
+        write_some(alloc, out, "source", &self.source)?;
+        write_some(alloc, out, "tags", &self.tags)?;
+        out.end_object()
     }
 }
 
@@ -318,15 +355,15 @@ impl PublishDiagnosticsParams {
 
 impl ToJson for PublishDiagnosticsParams {
     ghost stands = { λ it. object_of (
-        (codes "uri", Some (⟦<String as ToJson>⟧.stands it.uri))
-        ∷ (codes "version", option_map ⟦<i32 as ToJson>⟧.stands it.version)
-        ∷ (codes "diagnostics", Some (⟦<Vec<Diagnostic> as ToJson>⟧.stands it.diagnostics)) ∷ []) };
+        (codes "diagnostics", Some (⟦<Vec<Diagnostic> as ToJson>⟧.stands it.diagnostics))
+        ∷ (codes "uri", Some (⟦<String as ToJson>⟧.stands it.uri))
+        ∷ (codes "version", option_map ⟦<i32 as ToJson>⟧.stands it.version) ∷ []) };
 
     fn to_json(&self, alloc: Global) -> Result<Value, AllocError> {
         Object::new(alloc)
+            .member("diagnostics", &self.diagnostics)
             .member("uri", &self.uri)
             .some("version", &self.version)
-            .member("diagnostics", &self.diagnostics)
             .end()
     }
 }

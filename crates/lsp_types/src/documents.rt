@@ -5,9 +5,11 @@ ghost use Rattle.serde_json.specs.Data.{number, unsigned};
 ghost use Rattle.lsp_types.specs.Json.{object_of};
 ghost use Rattle.lsp_types.specs.Reads.{IfFits, IsObject, IsWithin, NoneReads, Optional, Required, TextOrEmpty, ◌and◌};
 
-use crate::json::{FromJson, Members, Misfit, Object, ToJson, fitting, number_within};
+use crate::json::{
+    FromJson, Members, Misfit, Object, ToJson, fitting, number_within, write_member, write_some,
+};
 use crate::progress::ProgressToken;
-use lsp_json::JsonRef;
+use lsp_json::{JsonRef, JsonWriteError, JsonWriter};
 use lsp_text::{ContentChange, Position, Range};
 use serde_json::Value;
 use std::alloc::{AllocError, Global};
@@ -23,14 +25,21 @@ pub struct Location {
 
 impl ToJson for Location {
     ghost stands = { λ it. object_of (
-        (codes "uri", Some (⟦<String as ToJson>⟧.stands it.uri))
-        ∷ (codes "range", Some (⟦<Range as ToJson>⟧.stands it.range)) ∷ []) };
+        (codes "range", Some (⟦<Range as ToJson>⟧.stands it.range))
+        ∷ (codes "uri", Some (⟦<String as ToJson>⟧.stands it.uri)) ∷ []) };
 
     fn to_json(&self, alloc: Global) -> Result<Value, AllocError> {
         Object::new(alloc)
-            .member("uri", &self.uri)
             .member("range", &self.range)
+            .member("uri", &self.uri)
             .end()
+    }
+
+    fn write_json(&self, alloc: Global, out: &mut JsonWriter) -> Result<(), JsonWriteError> {
+        out.begin_object()?;
+        write_member(alloc, out, "range", &self.range)?;
+        write_member(alloc, out, "uri", &self.uri)?;
+        out.end_object()
     }
 }
 
@@ -95,17 +104,36 @@ impl LocationLink {
 impl ToJson for LocationLink {
     ghost stands = { λ it. object_of (
         (codes "originSelectionRange", option_map ⟦<Range as ToJson>⟧.stands it.origin_selection_range)
-        ∷ (codes "targetUri", Some (⟦<String as ToJson>⟧.stands it.target_uri))
         ∷ (codes "targetRange", Some (⟦<Range as ToJson>⟧.stands it.target_range))
-        ∷ (codes "targetSelectionRange", Some (⟦<Range as ToJson>⟧.stands it.target_selection_range)) ∷ []) };
+        ∷ (codes "targetSelectionRange", Some (⟦<Range as ToJson>⟧.stands it.target_selection_range))
+        ∷ (codes "targetUri", Some (⟦<String as ToJson>⟧.stands it.target_uri)) ∷ []) };
 
     fn to_json(&self, alloc: Global) -> Result<Value, AllocError> {
         Object::new(alloc)
             .some("originSelectionRange", &self.origin_selection_range)
-            .member("targetUri", &self.target_uri)
             .member("targetRange", &self.target_range)
             .member("targetSelectionRange", &self.target_selection_range)
+            .member("targetUri", &self.target_uri)
             .end()
+    }
+
+    fn write_json(&self, alloc: Global, out: &mut JsonWriter) -> Result<(), JsonWriteError> {
+        out.begin_object()?;
+        write_some(
+            alloc,
+            out,
+            "originSelectionRange",
+            &self.origin_selection_range,
+        )?;
+        write_member(alloc, out, "targetRange", &self.target_range)?;
+        write_member(
+            alloc,
+            out,
+            "targetSelectionRange",
+            &self.target_selection_range,
+        )?;
+        write_member(alloc, out, "targetUri", &self.target_uri)?;
+        out.end_object()
     }
 }
 
@@ -169,6 +197,14 @@ impl ToJson for DefinitionResult {
             DefinitionResult::Links(it) => it.to_json(alloc),
         }
     }
+
+    fn write_json(&self, alloc: Global, out: &mut JsonWriter) -> Result<(), JsonWriteError> {
+        match self {
+            DefinitionResult::One(it) => it.write_json(alloc, out),
+            DefinitionResult::Several(it) => it.write_json(alloc, out),
+            DefinitionResult::Links(it) => it.write_json(alloc, out),
+        }
+    }
 }
 
 impl FromJson for DefinitionResult {
@@ -207,6 +243,12 @@ impl ToJson for TextDocumentIdentifier {
 
     fn to_json(&self, alloc: Global) -> Result<Value, AllocError> {
         Object::new(alloc).member("uri", &self.uri).end()
+    }
+
+    fn write_json(&self, alloc: Global, out: &mut JsonWriter) -> Result<(), JsonWriteError> {
+        out.begin_object()?;
+        write_member(alloc, out, "uri", &self.uri)?;
+        out.end_object()
     }
 }
 
@@ -287,17 +329,17 @@ pub struct TextDocumentItem {
 
 impl ToJson for TextDocumentItem {
     ghost stands = { λ it. object_of (
-        (codes "uri", Some (⟦<String as ToJson>⟧.stands it.uri))
-        ∷ (codes "languageId", Some (⟦<String as ToJson>⟧.stands it.language_id))
-        ∷ (codes "version", option_map ⟦<i32 as ToJson>⟧.stands it.version)
-        ∷ (codes "text", Some (⟦<String as ToJson>⟧.stands it.text)) ∷ []) };
+        (codes "languageId", Some (⟦<String as ToJson>⟧.stands it.language_id))
+        ∷ (codes "text", Some (⟦<String as ToJson>⟧.stands it.text))
+        ∷ (codes "uri", Some (⟦<String as ToJson>⟧.stands it.uri))
+        ∷ (codes "version", option_map ⟦<i32 as ToJson>⟧.stands it.version) ∷ []) };
 
     fn to_json(&self, alloc: Global) -> Result<Value, AllocError> {
         Object::new(alloc)
-            .member("uri", &self.uri)
             .member("languageId", &self.language_id)
-            .some("version", &self.version)
             .member("text", &self.text)
+            .member("uri", &self.uri)
+            .some("version", &self.version)
             .end()
     }
 }
@@ -375,13 +417,13 @@ pub struct DidChangeTextDocumentParams {
 
 impl ToJson for DidChangeTextDocumentParams {
     ghost stands = { λ it. object_of (
-        (codes "textDocument", Some (⟦<VersionedTextDocumentIdentifier as ToJson>⟧.stands it.text_document))
-        ∷ (codes "contentChanges", Some (⟦<Vec<ContentChange> as ToJson>⟧.stands it.content_changes)) ∷ []) };
+        (codes "contentChanges", Some (⟦<Vec<ContentChange> as ToJson>⟧.stands it.content_changes))
+        ∷ (codes "textDocument", Some (⟦<VersionedTextDocumentIdentifier as ToJson>⟧.stands it.text_document)) ∷ []) };
 
     fn to_json(&self, alloc: Global) -> Result<Value, AllocError> {
         Object::new(alloc)
-            .member("textDocument", &self.text_document)
             .member("contentChanges", &self.content_changes)
+            .member("textDocument", &self.text_document)
             .end()
     }
 }
@@ -423,13 +465,13 @@ pub struct DidSaveTextDocumentParams {
 
 impl ToJson for DidSaveTextDocumentParams {
     ghost stands = { λ it. object_of (
-        (codes "textDocument", Some (⟦<TextDocumentIdentifier as ToJson>⟧.stands it.text_document))
-        ∷ (codes "text", option_map ⟦<String as ToJson>⟧.stands it.text) ∷ []) };
+        (codes "text", option_map ⟦<String as ToJson>⟧.stands it.text)
+        ∷ (codes "textDocument", Some (⟦<TextDocumentIdentifier as ToJson>⟧.stands it.text_document)) ∷ []) };
 
     fn to_json(&self, alloc: Global) -> Result<Value, AllocError> {
         Object::new(alloc)
-            .member("textDocument", &self.text_document)
             .some("text", &self.text)
+            .member("textDocument", &self.text_document)
             .end()
     }
 }
@@ -469,13 +511,13 @@ pub struct WillSaveTextDocumentParams {
 
 impl ToJson for WillSaveTextDocumentParams {
     ghost stands = { λ it. object_of (
-        (codes "textDocument", Some (⟦<TextDocumentIdentifier as ToJson>⟧.stands it.text_document))
-        ∷ (codes "reason", Some (⟦<TextDocumentSaveReason as ToJson>⟧.stands it.reason)) ∷ []) };
+        (codes "reason", Some (⟦<TextDocumentSaveReason as ToJson>⟧.stands it.reason))
+        ∷ (codes "textDocument", Some (⟦<TextDocumentIdentifier as ToJson>⟧.stands it.text_document)) ∷ []) };
 
     fn to_json(&self, alloc: Global) -> Result<Value, AllocError> {
         Object::new(alloc)
-            .member("textDocument", &self.text_document)
             .member("reason", &self.reason)
+            .member("textDocument", &self.text_document)
             .end()
     }
 }
@@ -582,15 +624,15 @@ pub struct DocumentSymbolParams {
 
 impl ToJson for DocumentSymbolParams {
     ghost stands = { λ it. object_of (
-        (codes "textDocument", Some (⟦<TextDocumentIdentifier as ToJson>⟧.stands it.text_document))
-        ∷ (codes "workDoneToken", option_map ⟦<ProgressToken as ToJson>⟧.stands it.work_done_token)
-        ∷ (codes "partialResultToken", option_map ⟦<ProgressToken as ToJson>⟧.stands it.partial_result_token) ∷ []) };
+        (codes "partialResultToken", option_map ⟦<ProgressToken as ToJson>⟧.stands it.partial_result_token)
+        ∷ (codes "textDocument", Some (⟦<TextDocumentIdentifier as ToJson>⟧.stands it.text_document))
+        ∷ (codes "workDoneToken", option_map ⟦<ProgressToken as ToJson>⟧.stands it.work_done_token) ∷ []) };
 
     fn to_json(&self, alloc: Global) -> Result<Value, AllocError> {
         Object::new(alloc)
+            .some("partialResultToken", &self.partial_result_token)
             .member("textDocument", &self.text_document)
             .some("workDoneToken", &self.work_done_token)
-            .some("partialResultToken", &self.partial_result_token)
             .end()
     }
 }
@@ -639,13 +681,13 @@ pub struct TextDocumentPositionParams {
 
 impl ToJson for TextDocumentPositionParams {
     ghost stands = { λ it. object_of (
-        (codes "textDocument", Some (⟦<TextDocumentIdentifier as ToJson>⟧.stands it.text_document))
-        ∷ (codes "position", Some (⟦<Position as ToJson>⟧.stands it.position)) ∷ []) };
+        (codes "position", Some (⟦<Position as ToJson>⟧.stands it.position))
+        ∷ (codes "textDocument", Some (⟦<TextDocumentIdentifier as ToJson>⟧.stands it.text_document)) ∷ []) };
 
     fn to_json(&self, alloc: Global) -> Result<Value, AllocError> {
         Object::new(alloc)
-            .member("textDocument", &self.text_document)
             .member("position", &self.position)
+            .member("textDocument", &self.text_document)
             .end()
     }
 }
@@ -686,14 +728,14 @@ pub struct HoverParams {
 
 impl ToJson for HoverParams {
     ghost stands = { λ it. object_of (
-        (codes "textDocument", Some (⟦<TextDocumentIdentifier as ToJson>⟧.stands it.text_document))
-        ∷ (codes "position", Some (⟦<Position as ToJson>⟧.stands it.position))
+        (codes "position", Some (⟦<Position as ToJson>⟧.stands it.position))
+        ∷ (codes "textDocument", Some (⟦<TextDocumentIdentifier as ToJson>⟧.stands it.text_document))
         ∷ (codes "workDoneToken", option_map ⟦<ProgressToken as ToJson>⟧.stands it.work_done_token) ∷ []) };
 
     fn to_json(&self, alloc: Global) -> Result<Value, AllocError> {
         Object::new(alloc)
-            .member("textDocument", &self.text_document)
             .member("position", &self.position)
+            .member("textDocument", &self.text_document)
             .some("workDoneToken", &self.work_done_token)
             .end()
     }
@@ -744,17 +786,17 @@ pub struct DefinitionParams {
 
 impl ToJson for DefinitionParams {
     ghost stands = { λ it. object_of (
-        (codes "textDocument", Some (⟦<TextDocumentIdentifier as ToJson>⟧.stands it.text_document))
+        (codes "partialResultToken", option_map ⟦<ProgressToken as ToJson>⟧.stands it.partial_result_token)
         ∷ (codes "position", Some (⟦<Position as ToJson>⟧.stands it.position))
-        ∷ (codes "workDoneToken", option_map ⟦<ProgressToken as ToJson>⟧.stands it.work_done_token)
-        ∷ (codes "partialResultToken", option_map ⟦<ProgressToken as ToJson>⟧.stands it.partial_result_token) ∷ []) };
+        ∷ (codes "textDocument", Some (⟦<TextDocumentIdentifier as ToJson>⟧.stands it.text_document))
+        ∷ (codes "workDoneToken", option_map ⟦<ProgressToken as ToJson>⟧.stands it.work_done_token) ∷ []) };
 
     fn to_json(&self, alloc: Global) -> Result<Value, AllocError> {
         Object::new(alloc)
-            .member("textDocument", &self.text_document)
-            .member("position", &self.position)
-            .some("workDoneToken", &self.work_done_token)
             .some("partialResultToken", &self.partial_result_token)
+            .member("position", &self.position)
+            .member("textDocument", &self.text_document)
+            .some("workDoneToken", &self.work_done_token)
             .end()
     }
 }
@@ -813,14 +855,14 @@ pub struct InlayHintParams {
 
 impl ToJson for InlayHintParams {
     ghost stands = { λ it. object_of (
-        (codes "textDocument", Some (⟦<TextDocumentIdentifier as ToJson>⟧.stands it.text_document))
-        ∷ (codes "range", Some (⟦<Range as ToJson>⟧.stands it.range))
+        (codes "range", Some (⟦<Range as ToJson>⟧.stands it.range))
+        ∷ (codes "textDocument", Some (⟦<TextDocumentIdentifier as ToJson>⟧.stands it.text_document))
         ∷ (codes "workDoneToken", option_map ⟦<ProgressToken as ToJson>⟧.stands it.work_done_token) ∷ []) };
 
     fn to_json(&self, alloc: Global) -> Result<Value, AllocError> {
         Object::new(alloc)
-            .member("textDocument", &self.text_document)
             .member("range", &self.range)
+            .member("textDocument", &self.text_document)
             .some("workDoneToken", &self.work_done_token)
             .end()
     }
@@ -868,17 +910,17 @@ pub struct SemanticTokensRangeParams {
 
 impl ToJson for SemanticTokensRangeParams {
     ghost stands = { λ it. object_of (
-        (codes "textDocument", Some (⟦<TextDocumentIdentifier as ToJson>⟧.stands it.text_document))
+        (codes "partialResultToken", option_map ⟦<ProgressToken as ToJson>⟧.stands it.partial_result_token)
         ∷ (codes "range", Some (⟦<Range as ToJson>⟧.stands it.range))
-        ∷ (codes "workDoneToken", option_map ⟦<ProgressToken as ToJson>⟧.stands it.work_done_token)
-        ∷ (codes "partialResultToken", option_map ⟦<ProgressToken as ToJson>⟧.stands it.partial_result_token) ∷ []) };
+        ∷ (codes "textDocument", Some (⟦<TextDocumentIdentifier as ToJson>⟧.stands it.text_document))
+        ∷ (codes "workDoneToken", option_map ⟦<ProgressToken as ToJson>⟧.stands it.work_done_token) ∷ []) };
 
     fn to_json(&self, alloc: Global) -> Result<Value, AllocError> {
         Object::new(alloc)
-            .member("textDocument", &self.text_document)
-            .member("range", &self.range)
-            .some("workDoneToken", &self.work_done_token)
             .some("partialResultToken", &self.partial_result_token)
+            .member("range", &self.range)
+            .member("textDocument", &self.text_document)
+            .some("workDoneToken", &self.work_done_token)
             .end()
     }
 }
@@ -933,19 +975,19 @@ pub struct ReferenceParams {
 
 impl ToJson for ReferenceParams {
     ghost stands = { λ it. object_of (
-        (codes "textDocument", Some (⟦<TextDocumentIdentifier as ToJson>⟧.stands it.text_document))
+        (codes "context", Some (⟦<ReferenceContext as ToJson>⟧.stands it.context))
+        ∷ (codes "partialResultToken", option_map ⟦<ProgressToken as ToJson>⟧.stands it.partial_result_token)
         ∷ (codes "position", Some (⟦<Position as ToJson>⟧.stands it.position))
-        ∷ (codes "context", Some (⟦<ReferenceContext as ToJson>⟧.stands it.context))
-        ∷ (codes "workDoneToken", option_map ⟦<ProgressToken as ToJson>⟧.stands it.work_done_token)
-        ∷ (codes "partialResultToken", option_map ⟦<ProgressToken as ToJson>⟧.stands it.partial_result_token) ∷ []) };
+        ∷ (codes "textDocument", Some (⟦<TextDocumentIdentifier as ToJson>⟧.stands it.text_document))
+        ∷ (codes "workDoneToken", option_map ⟦<ProgressToken as ToJson>⟧.stands it.work_done_token) ∷ []) };
 
     fn to_json(&self, alloc: Global) -> Result<Value, AllocError> {
         Object::new(alloc)
-            .member("textDocument", &self.text_document)
-            .member("position", &self.position)
             .member("context", &self.context)
-            .some("workDoneToken", &self.work_done_token)
             .some("partialResultToken", &self.partial_result_token)
+            .member("position", &self.position)
+            .member("textDocument", &self.text_document)
+            .some("workDoneToken", &self.work_done_token)
             .end()
     }
 }

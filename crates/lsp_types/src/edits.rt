@@ -6,9 +6,11 @@ ghost use Rattle.lsp_types.specs.Json.{object_of};
 ghost use Rattle.lsp_types.specs.Reads.{IfFits, IsObject, Named, NoneReads, Optional, Required, ◌and◌};
 
 use crate::documents::TextDocumentIdentifier;
-use crate::json::{FromJson, Members, Misfit, Object, ToJson, fitting};
+use crate::json::{
+    FromJson, Members, Misfit, Object, ToJson, fitting, write_member, write_some, write_text,
+};
 use crate::progress::ProgressToken;
-use lsp_json::JsonRef;
+use lsp_json::{JsonRef, JsonWriteError, JsonWriter};
 use lsp_text::{Position, Range};
 use serde_json::Value;
 use std::alloc::{AllocError, Global};
@@ -25,14 +27,21 @@ pub struct TextEdit {
 
 impl ToJson for TextEdit {
     ghost stands = { λ it. object_of (
-        (codes "range", Some (⟦<Range as ToJson>⟧.stands it.range))
-        ∷ (codes "newText", Some (⟦<String as ToJson>⟧.stands it.new_text)) ∷ []) };
+        (codes "newText", Some (⟦<String as ToJson>⟧.stands it.new_text))
+        ∷ (codes "range", Some (⟦<Range as ToJson>⟧.stands it.range)) ∷ []) };
 
     fn to_json(&self, alloc: Global) -> Result<Value, AllocError> {
         Object::new(alloc)
-            .member("range", &self.range)
             .member("newText", &self.new_text)
+            .member("range", &self.range)
             .end()
+    }
+
+    fn write_json(&self, alloc: Global, out: &mut JsonWriter) -> Result<(), JsonWriteError> {
+        out.begin_object()?;
+        write_member(alloc, out, "newText", &self.new_text)?;
+        write_member(alloc, out, "range", &self.range)?;
+        out.end_object()
     }
 }
 
@@ -76,6 +85,13 @@ impl ToJson for OptionalVersionedTextDocumentIdentifier {
             .member("version", &self.version)
             .end()
     }
+
+    fn write_json(&self, alloc: Global, out: &mut JsonWriter) -> Result<(), JsonWriteError> {
+        out.begin_object()?;
+        write_member(alloc, out, "uri", &self.uri)?;
+        write_member(alloc, out, "version", &self.version)?;
+        out.end_object()
+    }
 }
 
 impl FromJson for OptionalVersionedTextDocumentIdentifier {
@@ -114,16 +130,24 @@ pub struct AnnotatedTextEdit {
 
 impl ToJson for AnnotatedTextEdit {
     ghost stands = { λ it. object_of (
-        (codes "range", Some (⟦<Range as ToJson>⟧.stands it.range))
+        (codes "annotationId", Some (⟦<String as ToJson>⟧.stands it.annotation_id))
         ∷ (codes "newText", Some (⟦<String as ToJson>⟧.stands it.new_text))
-        ∷ (codes "annotationId", Some (⟦<String as ToJson>⟧.stands it.annotation_id)) ∷ []) };
+        ∷ (codes "range", Some (⟦<Range as ToJson>⟧.stands it.range)) ∷ []) };
 
     fn to_json(&self, alloc: Global) -> Result<Value, AllocError> {
         Object::new(alloc)
-            .member("range", &self.range)
-            .member("newText", &self.new_text)
             .member("annotationId", &self.annotation_id)
+            .member("newText", &self.new_text)
+            .member("range", &self.range)
             .end()
+    }
+
+    fn write_json(&self, alloc: Global, out: &mut JsonWriter) -> Result<(), JsonWriteError> {
+        out.begin_object()?;
+        write_member(alloc, out, "annotationId", &self.annotation_id)?;
+        write_member(alloc, out, "newText", &self.new_text)?;
+        write_member(alloc, out, "range", &self.range)?;
+        out.end_object()
     }
 }
 
@@ -176,6 +200,13 @@ impl ToJson for AnyTextEdit {
             AnyTextEdit::Plain(it) => it.to_json(alloc),
         }
     }
+
+    fn write_json(&self, alloc: Global, out: &mut JsonWriter) -> Result<(), JsonWriteError> {
+        match self {
+            AnyTextEdit::Annotated(it) => it.write_json(alloc, out),
+            AnyTextEdit::Plain(it) => it.write_json(alloc, out),
+        }
+    }
 }
 
 impl FromJson for AnyTextEdit {
@@ -208,14 +239,21 @@ pub struct TextDocumentEdit {
 
 impl ToJson for TextDocumentEdit {
     ghost stands = { λ it. object_of (
-        (codes "textDocument", Some (⟦<OptionalVersionedTextDocumentIdentifier as ToJson>⟧.stands it.text_document))
-        ∷ (codes "edits", Some (⟦<Vec<AnyTextEdit> as ToJson>⟧.stands it.edits)) ∷ []) };
+        (codes "edits", Some (⟦<Vec<AnyTextEdit> as ToJson>⟧.stands it.edits))
+        ∷ (codes "textDocument", Some (⟦<OptionalVersionedTextDocumentIdentifier as ToJson>⟧.stands it.text_document)) ∷ []) };
 
     fn to_json(&self, alloc: Global) -> Result<Value, AllocError> {
         Object::new(alloc)
-            .member("textDocument", &self.text_document)
             .member("edits", &self.edits)
+            .member("textDocument", &self.text_document)
             .end()
+    }
+
+    fn write_json(&self, alloc: Global, out: &mut JsonWriter) -> Result<(), JsonWriteError> {
+        out.begin_object()?;
+        write_member(alloc, out, "edits", &self.edits)?;
+        write_member(alloc, out, "textDocument", &self.text_document)?;
+        out.end_object()
     }
 }
 
@@ -270,14 +308,21 @@ impl Default for CreateFileOptions {
 
 impl ToJson for CreateFileOptions {
     ghost stands = { λ it. object_of (
-        (codes "overwrite", option_map ⟦<bool as ToJson>⟧.stands it.overwrite)
-        ∷ (codes "ignoreIfExists", option_map ⟦<bool as ToJson>⟧.stands it.ignore_if_exists) ∷ []) };
+        (codes "ignoreIfExists", option_map ⟦<bool as ToJson>⟧.stands it.ignore_if_exists)
+        ∷ (codes "overwrite", option_map ⟦<bool as ToJson>⟧.stands it.overwrite) ∷ []) };
 
     fn to_json(&self, alloc: Global) -> Result<Value, AllocError> {
         Object::new(alloc)
-            .some("overwrite", &self.overwrite)
             .some("ignoreIfExists", &self.ignore_if_exists)
+            .some("overwrite", &self.overwrite)
             .end()
+    }
+
+    fn write_json(&self, alloc: Global, out: &mut JsonWriter) -> Result<(), JsonWriteError> {
+        out.begin_object()?;
+        write_some(alloc, out, "ignoreIfExists", &self.ignore_if_exists)?;
+        write_some(alloc, out, "overwrite", &self.overwrite)?;
+        out.end_object()
     }
 }
 
@@ -335,14 +380,21 @@ impl Default for DeleteFileOptions {
 
 impl ToJson for DeleteFileOptions {
     ghost stands = { λ it. object_of (
-        (codes "recursive", option_map ⟦<bool as ToJson>⟧.stands it.recursive)
-        ∷ (codes "ignoreIfNotExists", option_map ⟦<bool as ToJson>⟧.stands it.ignore_if_not_exists) ∷ []) };
+        (codes "ignoreIfNotExists", option_map ⟦<bool as ToJson>⟧.stands it.ignore_if_not_exists)
+        ∷ (codes "recursive", option_map ⟦<bool as ToJson>⟧.stands it.recursive) ∷ []) };
 
     fn to_json(&self, alloc: Global) -> Result<Value, AllocError> {
         Object::new(alloc)
-            .some("recursive", &self.recursive)
             .some("ignoreIfNotExists", &self.ignore_if_not_exists)
+            .some("recursive", &self.recursive)
             .end()
+    }
+
+    fn write_json(&self, alloc: Global, out: &mut JsonWriter) -> Result<(), JsonWriteError> {
+        out.begin_object()?;
+        write_some(alloc, out, "ignoreIfNotExists", &self.ignore_if_not_exists)?;
+        write_some(alloc, out, "recursive", &self.recursive)?;
+        out.end_object()
     }
 }
 
@@ -401,18 +453,27 @@ impl CreateFile {
 
 impl ToJson for CreateFile {
     ghost stands = { λ it. object_of (
-        (codes "kind", Some (string (codes "create")))
-        ∷ (codes "uri", Some (⟦<String as ToJson>⟧.stands it.uri))
+        (codes "annotationId", option_map ⟦<String as ToJson>⟧.stands it.annotation_id)
+        ∷ (codes "kind", Some (string (codes "create")))
         ∷ (codes "options", option_map ⟦<CreateFileOptions as ToJson>⟧.stands it.options)
-        ∷ (codes "annotationId", option_map ⟦<String as ToJson>⟧.stands it.annotation_id) ∷ []) };
+        ∷ (codes "uri", Some (⟦<String as ToJson>⟧.stands it.uri)) ∷ []) };
 
     fn to_json(&self, alloc: Global) -> Result<Value, AllocError> {
         Object::new(alloc)
-            .text("kind", "create")
-            .member("uri", &self.uri)
-            .some("options", &self.options)
             .some("annotationId", &self.annotation_id)
+            .text("kind", "create")
+            .some("options", &self.options)
+            .member("uri", &self.uri)
             .end()
+    }
+
+    fn write_json(&self, alloc: Global, out: &mut JsonWriter) -> Result<(), JsonWriteError> {
+        out.begin_object()?;
+        write_some(alloc, out, "annotationId", &self.annotation_id)?;
+        write_text(out, "kind", "create")?;
+        write_some(alloc, out, "options", &self.options)?;
+        write_member(alloc, out, "uri", &self.uri)?;
+        out.end_object()
     }
 }
 
@@ -480,20 +541,30 @@ impl RenameFile {
 
 impl ToJson for RenameFile {
     ghost stands = { λ it. object_of (
-        (codes "kind", Some (string (codes "rename")))
-        ∷ (codes "oldUri", Some (⟦<String as ToJson>⟧.stands it.old_uri))
+        (codes "annotationId", option_map ⟦<String as ToJson>⟧.stands it.annotation_id)
+        ∷ (codes "kind", Some (string (codes "rename")))
         ∷ (codes "newUri", Some (⟦<String as ToJson>⟧.stands it.new_uri))
-        ∷ (codes "options", option_map ⟦<RenameFileOptions as ToJson>⟧.stands it.options)
-        ∷ (codes "annotationId", option_map ⟦<String as ToJson>⟧.stands it.annotation_id) ∷ []) };
+        ∷ (codes "oldUri", Some (⟦<String as ToJson>⟧.stands it.old_uri))
+        ∷ (codes "options", option_map ⟦<RenameFileOptions as ToJson>⟧.stands it.options) ∷ []) };
 
     fn to_json(&self, alloc: Global) -> Result<Value, AllocError> {
         Object::new(alloc)
-            .text("kind", "rename")
-            .member("oldUri", &self.old_uri)
-            .member("newUri", &self.new_uri)
-            .some("options", &self.options)
             .some("annotationId", &self.annotation_id)
+            .text("kind", "rename")
+            .member("newUri", &self.new_uri)
+            .member("oldUri", &self.old_uri)
+            .some("options", &self.options)
             .end()
+    }
+
+    fn write_json(&self, alloc: Global, out: &mut JsonWriter) -> Result<(), JsonWriteError> {
+        out.begin_object()?;
+        write_some(alloc, out, "annotationId", &self.annotation_id)?;
+        write_text(out, "kind", "rename")?;
+        write_member(alloc, out, "newUri", &self.new_uri)?;
+        write_member(alloc, out, "oldUri", &self.old_uri)?;
+        write_some(alloc, out, "options", &self.options)?;
+        out.end_object()
     }
 }
 
@@ -560,18 +631,27 @@ impl DeleteFile {
 
 impl ToJson for DeleteFile {
     ghost stands = { λ it. object_of (
-        (codes "kind", Some (string (codes "delete")))
-        ∷ (codes "uri", Some (⟦<String as ToJson>⟧.stands it.uri))
+        (codes "annotationId", option_map ⟦<String as ToJson>⟧.stands it.annotation_id)
+        ∷ (codes "kind", Some (string (codes "delete")))
         ∷ (codes "options", option_map ⟦<DeleteFileOptions as ToJson>⟧.stands it.options)
-        ∷ (codes "annotationId", option_map ⟦<String as ToJson>⟧.stands it.annotation_id) ∷ []) };
+        ∷ (codes "uri", Some (⟦<String as ToJson>⟧.stands it.uri)) ∷ []) };
 
     fn to_json(&self, alloc: Global) -> Result<Value, AllocError> {
         Object::new(alloc)
-            .text("kind", "delete")
-            .member("uri", &self.uri)
-            .some("options", &self.options)
             .some("annotationId", &self.annotation_id)
+            .text("kind", "delete")
+            .some("options", &self.options)
+            .member("uri", &self.uri)
             .end()
+    }
+
+    fn write_json(&self, alloc: Global, out: &mut JsonWriter) -> Result<(), JsonWriteError> {
+        out.begin_object()?;
+        write_some(alloc, out, "annotationId", &self.annotation_id)?;
+        write_text(out, "kind", "delete")?;
+        write_some(alloc, out, "options", &self.options)?;
+        write_member(alloc, out, "uri", &self.uri)?;
+        out.end_object()
     }
 }
 
@@ -633,6 +713,15 @@ impl ToJson for DocumentChange {
             DocumentChange::Rename(it) => it.to_json(alloc),
             DocumentChange::Delete(it) => it.to_json(alloc),
             DocumentChange::Edit(it) => it.to_json(alloc),
+        }
+    }
+
+    fn write_json(&self, alloc: Global, out: &mut JsonWriter) -> Result<(), JsonWriteError> {
+        match self {
+            DocumentChange::Create(it) => it.write_json(alloc, out),
+            DocumentChange::Rename(it) => it.write_json(alloc, out),
+            DocumentChange::Delete(it) => it.write_json(alloc, out),
+            DocumentChange::Edit(it) => it.write_json(alloc, out),
         }
     }
 }
@@ -697,16 +786,24 @@ impl Default for WorkspaceEdit {
 
 impl ToJson for WorkspaceEdit {
     ghost stands = { λ it. object_of (
-        (codes "changes", option_map ⟦<BTreeMap<String, Vec<TextEdit>> as ToJson>⟧.stands it.changes)
-        ∷ (codes "documentChanges", option_map ⟦<Vec<DocumentChange> as ToJson>⟧.stands it.document_changes)
-        ∷ (codes "changeAnnotations", option_map ⟦<BTreeMap<String, ChangeAnnotation> as ToJson>⟧.stands it.change_annotations) ∷ []) };
+        (codes "changeAnnotations", option_map ⟦<BTreeMap<String, ChangeAnnotation> as ToJson>⟧.stands it.change_annotations)
+        ∷ (codes "changes", option_map ⟦<BTreeMap<String, Vec<TextEdit>> as ToJson>⟧.stands it.changes)
+        ∷ (codes "documentChanges", option_map ⟦<Vec<DocumentChange> as ToJson>⟧.stands it.document_changes) ∷ []) };
 
     fn to_json(&self, alloc: Global) -> Result<Value, AllocError> {
         Object::new(alloc)
+            .some("changeAnnotations", &self.change_annotations)
             .some("changes", &self.changes)
             .some("documentChanges", &self.document_changes)
-            .some("changeAnnotations", &self.change_annotations)
             .end()
+    }
+
+    fn write_json(&self, alloc: Global, out: &mut JsonWriter) -> Result<(), JsonWriteError> {
+        out.begin_object()?;
+        write_some(alloc, out, "changeAnnotations", &self.change_annotations)?;
+        write_some(alloc, out, "changes", &self.changes)?;
+        write_some(alloc, out, "documentChanges", &self.document_changes)?;
+        out.end_object()
     }
 }
 
@@ -768,16 +865,24 @@ impl ChangeAnnotation {
 
 impl ToJson for ChangeAnnotation {
     ghost stands = { λ it. object_of (
-        (codes "label", Some (⟦<String as ToJson>⟧.stands it.label))
-        ∷ (codes "needsConfirmation", option_map ⟦<bool as ToJson>⟧.stands it.needs_confirmation)
-        ∷ (codes "description", option_map ⟦<String as ToJson>⟧.stands it.description) ∷ []) };
+        (codes "description", option_map ⟦<String as ToJson>⟧.stands it.description)
+        ∷ (codes "label", Some (⟦<String as ToJson>⟧.stands it.label))
+        ∷ (codes "needsConfirmation", option_map ⟦<bool as ToJson>⟧.stands it.needs_confirmation) ∷ []) };
 
     fn to_json(&self, alloc: Global) -> Result<Value, AllocError> {
         Object::new(alloc)
+            .some("description", &self.description)
             .member("label", &self.label)
             .some("needsConfirmation", &self.needs_confirmation)
-            .some("description", &self.description)
             .end()
+    }
+
+    fn write_json(&self, alloc: Global, out: &mut JsonWriter) -> Result<(), JsonWriteError> {
+        out.begin_object()?;
+        write_some(alloc, out, "description", &self.description)?;
+        write_member(alloc, out, "label", &self.label)?;
+        write_some(alloc, out, "needsConfirmation", &self.needs_confirmation)?;
+        out.end_object()
     }
 }
 
@@ -822,16 +927,16 @@ pub struct RenameParams {
 
 impl ToJson for RenameParams {
     ghost stands = { λ it. object_of (
-        (codes "textDocument", Some (⟦<TextDocumentIdentifier as ToJson>⟧.stands it.text_document))
+        (codes "newName", Some (⟦<String as ToJson>⟧.stands it.new_name))
         ∷ (codes "position", Some (⟦<Position as ToJson>⟧.stands it.position))
-        ∷ (codes "newName", Some (⟦<String as ToJson>⟧.stands it.new_name))
+        ∷ (codes "textDocument", Some (⟦<TextDocumentIdentifier as ToJson>⟧.stands it.text_document))
         ∷ (codes "workDoneToken", option_map ⟦<ProgressToken as ToJson>⟧.stands it.work_done_token) ∷ []) };
 
     fn to_json(&self, alloc: Global) -> Result<Value, AllocError> {
         Object::new(alloc)
-            .member("textDocument", &self.text_document)
-            .member("position", &self.position)
             .member("newName", &self.new_name)
+            .member("position", &self.position)
+            .member("textDocument", &self.text_document)
             .some("workDoneToken", &self.work_done_token)
             .end()
     }
@@ -877,14 +982,21 @@ pub struct PrepareRenamePlaceholder {
 
 impl ToJson for PrepareRenamePlaceholder {
     ghost stands = { λ it. object_of (
-        (codes "range", Some (⟦<Range as ToJson>⟧.stands it.range))
-        ∷ (codes "placeholder", Some (⟦<String as ToJson>⟧.stands it.placeholder)) ∷ []) };
+        (codes "placeholder", Some (⟦<String as ToJson>⟧.stands it.placeholder))
+        ∷ (codes "range", Some (⟦<Range as ToJson>⟧.stands it.range)) ∷ []) };
 
     fn to_json(&self, alloc: Global) -> Result<Value, AllocError> {
         Object::new(alloc)
-            .member("range", &self.range)
             .member("placeholder", &self.placeholder)
+            .member("range", &self.range)
             .end()
+    }
+
+    fn write_json(&self, alloc: Global, out: &mut JsonWriter) -> Result<(), JsonWriteError> {
+        out.begin_object()?;
+        write_member(alloc, out, "placeholder", &self.placeholder)?;
+        write_member(alloc, out, "range", &self.range)?;
+        out.end_object()
     }
 }
 
@@ -923,6 +1035,12 @@ impl ToJson for PrepareRenameDefaultBehavior {
         Object::new(alloc)
             .member("defaultBehavior", &self.default_behavior)
             .end()
+    }
+
+    fn write_json(&self, alloc: Global, out: &mut JsonWriter) -> Result<(), JsonWriteError> {
+        out.begin_object()?;
+        write_member(alloc, out, "defaultBehavior", &self.default_behavior)?;
+        out.end_object()
     }
 }
 
@@ -972,6 +1090,14 @@ impl ToJson for PrepareRenameResult {
             PrepareRenameResult::Range(it) => it.to_json(alloc),
         }
     }
+
+    fn write_json(&self, alloc: Global, out: &mut JsonWriter) -> Result<(), JsonWriteError> {
+        match self {
+            PrepareRenameResult::Placeholder(it) => it.write_json(alloc, out),
+            PrepareRenameResult::Default(it) => it.write_json(alloc, out),
+            PrepareRenameResult::Range(it) => it.write_json(alloc, out),
+        }
+    }
 }
 
 impl FromJson for PrepareRenameResult {
@@ -1014,19 +1140,19 @@ pub struct FormattingOptions {
 
 impl ToJson for FormattingOptions {
     ghost stands = { λ it. object_of (
-        (codes "tabSize", Some (⟦<u32 as ToJson>⟧.stands it.tab_size))
+        (codes "insertFinalNewline", option_map ⟦<bool as ToJson>⟧.stands it.insert_final_newline)
         ∷ (codes "insertSpaces", Some (⟦<bool as ToJson>⟧.stands it.insert_spaces))
-        ∷ (codes "trimTrailingWhitespace", option_map ⟦<bool as ToJson>⟧.stands it.trim_trailing_whitespace)
-        ∷ (codes "insertFinalNewline", option_map ⟦<bool as ToJson>⟧.stands it.insert_final_newline)
-        ∷ (codes "trimFinalNewlines", option_map ⟦<bool as ToJson>⟧.stands it.trim_final_newlines) ∷ []) };
+        ∷ (codes "tabSize", Some (⟦<u32 as ToJson>⟧.stands it.tab_size))
+        ∷ (codes "trimFinalNewlines", option_map ⟦<bool as ToJson>⟧.stands it.trim_final_newlines)
+        ∷ (codes "trimTrailingWhitespace", option_map ⟦<bool as ToJson>⟧.stands it.trim_trailing_whitespace) ∷ []) };
 
     fn to_json(&self, alloc: Global) -> Result<Value, AllocError> {
         Object::new(alloc)
-            .member("tabSize", &self.tab_size)
-            .member("insertSpaces", &self.insert_spaces)
-            .some("trimTrailingWhitespace", &self.trim_trailing_whitespace)
             .some("insertFinalNewline", &self.insert_final_newline)
+            .member("insertSpaces", &self.insert_spaces)
+            .member("tabSize", &self.tab_size)
             .some("trimFinalNewlines", &self.trim_final_newlines)
+            .some("trimTrailingWhitespace", &self.trim_trailing_whitespace)
             .end()
     }
 }
@@ -1081,14 +1207,14 @@ pub struct DocumentFormattingParams {
 
 impl ToJson for DocumentFormattingParams {
     ghost stands = { λ it. object_of (
-        (codes "textDocument", Some (⟦<TextDocumentIdentifier as ToJson>⟧.stands it.text_document))
-        ∷ (codes "options", Some (⟦<FormattingOptions as ToJson>⟧.stands it.options))
+        (codes "options", Some (⟦<FormattingOptions as ToJson>⟧.stands it.options))
+        ∷ (codes "textDocument", Some (⟦<TextDocumentIdentifier as ToJson>⟧.stands it.text_document))
         ∷ (codes "workDoneToken", option_map ⟦<ProgressToken as ToJson>⟧.stands it.work_done_token) ∷ []) };
 
     fn to_json(&self, alloc: Global) -> Result<Value, AllocError> {
         Object::new(alloc)
-            .member("textDocument", &self.text_document)
             .member("options", &self.options)
+            .member("textDocument", &self.text_document)
             .some("workDoneToken", &self.work_done_token)
             .end()
     }
@@ -1136,16 +1262,16 @@ pub struct DocumentRangeFormattingParams {
 
 impl ToJson for DocumentRangeFormattingParams {
     ghost stands = { λ it. object_of (
-        (codes "textDocument", Some (⟦<TextDocumentIdentifier as ToJson>⟧.stands it.text_document))
+        (codes "options", Some (⟦<FormattingOptions as ToJson>⟧.stands it.options))
         ∷ (codes "range", Some (⟦<Range as ToJson>⟧.stands it.range))
-        ∷ (codes "options", Some (⟦<FormattingOptions as ToJson>⟧.stands it.options))
+        ∷ (codes "textDocument", Some (⟦<TextDocumentIdentifier as ToJson>⟧.stands it.text_document))
         ∷ (codes "workDoneToken", option_map ⟦<ProgressToken as ToJson>⟧.stands it.work_done_token) ∷ []) };
 
     fn to_json(&self, alloc: Global) -> Result<Value, AllocError> {
         Object::new(alloc)
-            .member("textDocument", &self.text_document)
-            .member("range", &self.range)
             .member("options", &self.options)
+            .member("range", &self.range)
+            .member("textDocument", &self.text_document)
             .some("workDoneToken", &self.work_done_token)
             .end()
     }
@@ -1199,17 +1325,17 @@ pub struct DocumentOnTypeFormattingParams {
 
 impl ToJson for DocumentOnTypeFormattingParams {
     ghost stands = { λ it. object_of (
-        (codes "textDocument", Some (⟦<TextDocumentIdentifier as ToJson>⟧.stands it.text_document))
+        (codes "ch", Some (⟦<String as ToJson>⟧.stands it.ch))
+        ∷ (codes "options", Some (⟦<FormattingOptions as ToJson>⟧.stands it.options))
         ∷ (codes "position", Some (⟦<Position as ToJson>⟧.stands it.position))
-        ∷ (codes "ch", Some (⟦<String as ToJson>⟧.stands it.ch))
-        ∷ (codes "options", Some (⟦<FormattingOptions as ToJson>⟧.stands it.options)) ∷ []) };
+        ∷ (codes "textDocument", Some (⟦<TextDocumentIdentifier as ToJson>⟧.stands it.text_document)) ∷ []) };
 
     fn to_json(&self, alloc: Global) -> Result<Value, AllocError> {
         Object::new(alloc)
-            .member("textDocument", &self.text_document)
-            .member("position", &self.position)
             .member("ch", &self.ch)
             .member("options", &self.options)
+            .member("position", &self.position)
+            .member("textDocument", &self.text_document)
             .end()
     }
 }

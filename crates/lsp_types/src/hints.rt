@@ -9,9 +9,11 @@ ghost use Rattle.lsp_types.specs.Reads.{Beside, IsObject, IsWithin, NoneReads, O
 use crate::documents::Location;
 use crate::edits::TextEdit;
 use crate::hovers::Documentation;
-use crate::json::{FromJson, Members, Misfit, Object, ToJson, fitting, number_within};
+use crate::json::{
+    FromJson, Members, Misfit, Object, ToJson, fitting, number_within, write_member, write_some,
+};
 use crate::workspace::Command;
-use lsp_json::JsonRef;
+use lsp_json::{JsonRef, JsonWriteError, JsonWriter};
 use lsp_text::Position;
 use serde_json::Value;
 use std::alloc::{AllocError, Global};
@@ -32,6 +34,10 @@ impl ToJson for InlayHintKind {
 
     fn to_json(&self, alloc: Global) -> Result<Value, AllocError> {
         self.0.to_json(alloc)
+    }
+
+    fn write_json(&self, alloc: Global, out: &mut JsonWriter) -> Result<(), JsonWriteError> {
+        self.0.write_json(alloc, out)
     }
 }
 
@@ -82,18 +88,27 @@ impl InlayHintLabelPart {
 
 impl ToJson for InlayHintLabelPart {
     ghost stands = { λ it. object_of (
-        (codes "value", Some (⟦<String as ToJson>⟧.stands it.value))
-        ∷ (codes "tooltip", option_map ⟦<Documentation as ToJson>⟧.stands it.tooltip)
+        (codes "command", option_map ⟦<Command as ToJson>⟧.stands it.command)
         ∷ (codes "location", option_map ⟦<Location as ToJson>⟧.stands it.location)
-        ∷ (codes "command", option_map ⟦<Command as ToJson>⟧.stands it.command) ∷ []) };
+        ∷ (codes "tooltip", option_map ⟦<Documentation as ToJson>⟧.stands it.tooltip)
+        ∷ (codes "value", Some (⟦<String as ToJson>⟧.stands it.value)) ∷ []) };
 
     fn to_json(&self, alloc: Global) -> Result<Value, AllocError> {
         Object::new(alloc)
-            .member("value", &self.value)
-            .some("tooltip", &self.tooltip)
-            .some("location", &self.location)
             .some("command", &self.command)
+            .some("location", &self.location)
+            .some("tooltip", &self.tooltip)
+            .member("value", &self.value)
             .end()
+    }
+
+    fn write_json(&self, alloc: Global, out: &mut JsonWriter) -> Result<(), JsonWriteError> {
+        out.begin_object()?;
+        write_some(alloc, out, "command", &self.command)?;
+        write_some(alloc, out, "location", &self.location)?;
+        write_some(alloc, out, "tooltip", &self.tooltip)?;
+        write_member(alloc, out, "value", &self.value)?;
+        out.end_object()
     }
 }
 
@@ -147,6 +162,13 @@ impl ToJson for InlayHintLabel {
         match self {
             InlayHintLabel::Text(it) => it.to_json(alloc),
             InlayHintLabel::Parts(it) => it.to_json(alloc),
+        }
+    }
+
+    fn write_json(&self, alloc: Global, out: &mut JsonWriter) -> Result<(), JsonWriteError> {
+        match self {
+            InlayHintLabel::Text(it) => it.write_json(alloc, out),
+            InlayHintLabel::Parts(it) => it.write_json(alloc, out),
         }
     }
 }
@@ -229,27 +251,44 @@ impl InlayHint {
 
 impl ToJson for InlayHint {
     ghost stands = { λ it. object_with (
-        (codes "position", Some (⟦<Position as ToJson>⟧.stands it.position))
-        ∷ (codes "label", Some (⟦<InlayHintLabel as ToJson>⟧.stands it.label))
+        (codes "data", option_map ⟦<Value as ToJson>⟧.stands it.«data»)
         ∷ (codes "kind", option_map ⟦<InlayHintKind as ToJson>⟧.stands it.kind)
-        ∷ (codes "textEdits", option_map ⟦<Vec<TextEdit> as ToJson>⟧.stands it.text_edits)
-        ∷ (codes "tooltip", option_map ⟦<Documentation as ToJson>⟧.stands it.tooltip)
+        ∷ (codes "label", Some (⟦<InlayHintLabel as ToJson>⟧.stands it.label))
         ∷ (codes "paddingLeft", option_map ⟦<bool as ToJson>⟧.stands it.padding_left)
         ∷ (codes "paddingRight", option_map ⟦<bool as ToJson>⟧.stands it.padding_right)
-        ∷ (codes "data", option_map ⟦<Value as ToJson>⟧.stands it.«data») ∷ []) (option_map view it.more) };
+        ∷ (codes "position", Some (⟦<Position as ToJson>⟧.stands it.position))
+        ∷ (codes "textEdits", option_map ⟦<Vec<TextEdit> as ToJson>⟧.stands it.text_edits)
+        ∷ (codes "tooltip", option_map ⟦<Documentation as ToJson>⟧.stands it.tooltip) ∷ []) (option_map view it.more) };
 
     fn to_json(&self, alloc: Global) -> Result<Value, AllocError> {
         Object::new(alloc)
-            .member("position", &self.position)
-            .member("label", &self.label)
+            .some("data", &self.data)
             .some("kind", &self.kind)
-            .some("textEdits", &self.text_edits)
-            .some("tooltip", &self.tooltip)
+            .member("label", &self.label)
             .some("paddingLeft", &self.padding_left)
             .some("paddingRight", &self.padding_right)
-            .some("data", &self.data)
+            .member("position", &self.position)
+            .some("textEdits", &self.text_edits)
+            .some("tooltip", &self.tooltip)
             .rest(&self.more)
             .end()
+    }
+
+    fn write_json(&self, alloc: Global, out: &mut JsonWriter) -> Result<(), JsonWriteError> {
+        if self.more.is_some() {
+            let tree = self.to_json(alloc)?;
+            return out.value(&tree);
+        }
+        out.begin_object()?;
+        write_some(alloc, out, "data", &self.data)?;
+        write_some(alloc, out, "kind", &self.kind)?;
+        write_member(alloc, out, "label", &self.label)?;
+        write_some(alloc, out, "paddingLeft", &self.padding_left)?;
+        write_some(alloc, out, "paddingRight", &self.padding_right)?;
+        write_member(alloc, out, "position", &self.position)?;
+        write_some(alloc, out, "textEdits", &self.text_edits)?;
+        write_some(alloc, out, "tooltip", &self.tooltip)?;
+        out.end_object()
     }
 }
 

@@ -5,8 +5,8 @@ ghost use Rattle.lsp_types.specs.Json.{object_of};
 ghost use Rattle.lsp_types.specs.Reads.{IsObject, NoneReads, Optional, Required, ◌and◌};
 
 use crate::choices::MarkupKind;
-use crate::json::{FromJson, Members, Misfit, Object, ToJson, fitting};
-use lsp_json::JsonRef;
+use crate::json::{FromJson, Members, Misfit, Object, ToJson, fitting, write_member, write_some};
+use lsp_json::{JsonRef, JsonWriteError, JsonWriter};
 use lsp_text::Range;
 use serde_json::Value;
 use std::alloc::{AllocError, Global};
@@ -30,6 +30,13 @@ impl ToJson for MarkupContent {
             .member("kind", &self.kind)
             .member("value", &self.value)
             .end()
+    }
+
+    fn write_json(&self, alloc: Global, out: &mut JsonWriter) -> Result<(), JsonWriteError> {
+        out.begin_object()?;
+        write_member(alloc, out, "kind", &self.kind)?;
+        write_member(alloc, out, "value", &self.value)?;
+        out.end_object()
     }
 }
 
@@ -76,6 +83,13 @@ impl ToJson for Documentation {
             Documentation::Markup(it) => it.to_json(alloc),
         }
     }
+
+    fn write_json(&self, alloc: Global, out: &mut JsonWriter) -> Result<(), JsonWriteError> {
+        match self {
+            Documentation::Text(it) => it.write_json(alloc, out),
+            Documentation::Markup(it) => it.write_json(alloc, out),
+        }
+    }
 }
 
 impl FromJson for Documentation {
@@ -116,6 +130,13 @@ impl ToJson for LanguageString {
             .member("language", &self.language)
             .member("value", &self.value)
             .end()
+    }
+
+    fn write_json(&self, alloc: Global, out: &mut JsonWriter) -> Result<(), JsonWriteError> {
+        out.begin_object()?;
+        write_member(alloc, out, "language", &self.language)?;
+        write_member(alloc, out, "value", &self.value)?;
+        out.end_object()
     }
 }
 
@@ -160,6 +181,13 @@ impl ToJson for MarkedString {
         match self {
             MarkedString::Text(it) => it.to_json(alloc),
             MarkedString::Code(it) => it.to_json(alloc),
+        }
+    }
+
+    fn write_json(&self, alloc: Global, out: &mut JsonWriter) -> Result<(), JsonWriteError> {
+        match self {
+            MarkedString::Text(it) => it.write_json(alloc, out),
+            MarkedString::Code(it) => it.write_json(alloc, out),
         }
     }
 }
@@ -211,6 +239,14 @@ impl ToJson for HoverContents {
             HoverContents::Markup(it) => it.to_json(alloc),
         }
     }
+
+    fn write_json(&self, alloc: Global, out: &mut JsonWriter) -> Result<(), JsonWriteError> {
+        match self {
+            HoverContents::Marked(it) => it.write_json(alloc, out),
+            HoverContents::Several(it) => it.write_json(alloc, out),
+            HoverContents::Markup(it) => it.write_json(alloc, out),
+        }
+    }
 }
 
 impl FromJson for HoverContents {
@@ -255,6 +291,13 @@ impl ToJson for Hover {
             .member("contents", &self.contents)
             .some("range", &self.range)
             .end()
+    }
+
+    fn write_json(&self, alloc: Global, out: &mut JsonWriter) -> Result<(), JsonWriteError> {
+        out.begin_object()?;
+        write_member(alloc, out, "contents", &self.contents)?;
+        write_some(alloc, out, "range", &self.range)?;
+        out.end_object()
     }
 }
 

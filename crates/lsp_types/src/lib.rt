@@ -9,8 +9,8 @@
 //! `Position`, `Range` and `TextDocumentContentChangeEvent` are types of `lsp_text`. So `Text::offset_at` takes a
 //! position that was read, and `TextDocuments::change` of `lsp_documents` the changes.
 //!
-//! Each call is safe and returns. Two things are proved: which value a tree is read as (`reads`), and which tree a
-//! value is written as (`stands`). Both have each key. That the keys are the standard's is tested, not proved. Use the
+//! Each call is safe and returns. Two things are proved: which value a tree is read as (`reads`), and which tree or text
+//! a value is written as (`stands`). Both have each key. That the keys are the standard's is tested, not proved. Use the
 //! crate together with `lsp_server`, or copy the types that you need.
 #![tactic(auto)]
 

@@ -6,10 +6,10 @@ ghost use Rattle.lsp_types.specs.Reads.{IfFits, IsObject, Optional, Required, �
 
 use crate::capabilities::ServerCapabilities;
 use crate::choices::NumberOrString;
-use crate::json::{FromJson, Members, Misfit, Object, ToJson};
+use crate::json::{FromJson, Members, Misfit, Object, ToJson, write_member, write_some};
 use crate::progress::ProgressToken;
 use crate::workspace::WorkspaceFolder;
-use lsp_json::JsonRef;
+use lsp_json::{JsonRef, JsonWriteError, JsonWriter};
 use serde_json::Value;
 use std::alloc::{AllocError, Global};
 
@@ -40,29 +40,29 @@ pub struct InitializeParams {
 
 impl ToJson for InitializeParams {
     ghost stands = { λ it. object_of (
-        (codes "processId", Some (⟦<Option<i32> as ToJson>⟧.stands it.process_id))
+        (codes "capabilities", Some (⟦<Value as ToJson>⟧.stands it.capabilities))
         ∷ (codes "clientInfo", option_map ⟦<ClientInfo as ToJson>⟧.stands it.client_info)
+        ∷ (codes "initializationOptions", option_map ⟦<Value as ToJson>⟧.stands it.initialization_options)
         ∷ (codes "locale", option_map ⟦<String as ToJson>⟧.stands it.locale)
+        ∷ (codes "processId", Some (⟦<Option<i32> as ToJson>⟧.stands it.process_id))
         ∷ (codes "rootPath", option_map ⟦<String as ToJson>⟧.stands it.root_path)
         ∷ (codes "rootUri", Some (⟦<Option<String> as ToJson>⟧.stands it.root_uri))
-        ∷ (codes "workspaceFolders", option_map ⟦<Vec<WorkspaceFolder> as ToJson>⟧.stands it.workspace_folders)
-        ∷ (codes "initializationOptions", option_map ⟦<Value as ToJson>⟧.stands it.initialization_options)
-        ∷ (codes "capabilities", Some (⟦<Value as ToJson>⟧.stands it.capabilities))
         ∷ (codes "trace", option_map ⟦<String as ToJson>⟧.stands it.trace)
-        ∷ (codes "workDoneToken", option_map ⟦<ProgressToken as ToJson>⟧.stands it.work_done_token) ∷ []) };
+        ∷ (codes "workDoneToken", option_map ⟦<ProgressToken as ToJson>⟧.stands it.work_done_token)
+        ∷ (codes "workspaceFolders", option_map ⟦<Vec<WorkspaceFolder> as ToJson>⟧.stands it.workspace_folders) ∷ []) };
 
     fn to_json(&self, alloc: Global) -> Result<Value, AllocError> {
         Object::new(alloc)
-            .member("processId", &self.process_id)
+            .member("capabilities", &self.capabilities)
             .some("clientInfo", &self.client_info)
+            .some("initializationOptions", &self.initialization_options)
             .some("locale", &self.locale)
+            .member("processId", &self.process_id)
             .some("rootPath", &self.root_path)
             .member("rootUri", &self.root_uri)
-            .some("workspaceFolders", &self.workspace_folders)
-            .some("initializationOptions", &self.initialization_options)
-            .member("capabilities", &self.capabilities)
             .some("trace", &self.trace)
             .some("workDoneToken", &self.work_done_token)
+            .some("workspaceFolders", &self.workspace_folders)
             .end()
     }
 }
@@ -160,6 +160,13 @@ impl ToJson for ServerInfo {
             .some("version", &self.version)
             .end()
     }
+
+    fn write_json(&self, alloc: Global, out: &mut JsonWriter) -> Result<(), JsonWriteError> {
+        out.begin_object()?;
+        write_member(alloc, out, "name", &self.name)?;
+        write_some(alloc, out, "version", &self.version)?;
+        out.end_object()
+    }
 }
 
 impl FromJson for ServerInfo {
@@ -204,6 +211,13 @@ impl ToJson for InitializeResult {
             .member("capabilities", &self.capabilities)
             .some("serverInfo", &self.server_info)
             .end()
+    }
+
+    fn write_json(&self, alloc: Global, out: &mut JsonWriter) -> Result<(), JsonWriteError> {
+        out.begin_object()?;
+        write_member(alloc, out, "capabilities", &self.capabilities)?;
+        write_some(alloc, out, "serverInfo", &self.server_info)?;
+        out.end_object()
     }
 }
 

@@ -6,7 +6,7 @@ ghost use Rattle.lsp_json.specs.JsonRef.{json_data};
 ghost use Rattle.lsp_types.specs.Reads.{EachItem, InSome, IsWhole};
 
 use crate::json::{FromJson, Misfit, ToJson};
-use lsp_json::JsonRef;
+use lsp_json::{JsonRef, JsonWriteError, JsonWriter};
 use serde_json::Value;
 use std::alloc::{AllocError, Global};
 
@@ -55,5 +55,12 @@ impl ToJson for LabelOffsets {
     fn to_json(&self, alloc: Global) -> Result<Value, AllocError> {
         let numbers = vec![in alloc; Value::from(self.start), Value::from(self.end)]?;
         Ok(Value::Array(numbers))
+    }
+
+    fn write_json(&self, alloc: Global, out: &mut JsonWriter) -> Result<(), JsonWriteError> {
+        out.begin_array()?;
+        self.start.write_json(alloc, out)?;
+        self.end.write_json(alloc, out)?;
+        out.end_array()
     }
 }

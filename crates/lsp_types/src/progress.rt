@@ -164,19 +164,19 @@ impl WorkDoneProgressBegin {
 
 impl ToJson for WorkDoneProgressBegin {
     ghost stands = { λ it. object_of (
-        (codes "kind", Some (string (codes "begin")))
-        ∷ (codes "title", Some (⟦<String as ToJson>⟧.stands it.title))
-        ∷ (codes "cancellable", option_map ⟦<bool as ToJson>⟧.stands it.cancellable)
+        (codes "cancellable", option_map ⟦<bool as ToJson>⟧.stands it.cancellable)
+        ∷ (codes "kind", Some (string (codes "begin")))
         ∷ (codes "message", option_map ⟦<String as ToJson>⟧.stands it.message)
-        ∷ (codes "percentage", option_map ⟦<u32 as ToJson>⟧.stands it.percentage) ∷ []) };
+        ∷ (codes "percentage", option_map ⟦<u32 as ToJson>⟧.stands it.percentage)
+        ∷ (codes "title", Some (⟦<String as ToJson>⟧.stands it.title)) ∷ []) };
 
     fn to_json(&self, alloc: Global) -> Result<Value, AllocError> {
         Object::new(alloc)
-            .text("kind", "begin")
-            .member("title", &self.title)
             .some("cancellable", &self.cancellable)
+            .text("kind", "begin")
             .some("message", &self.message)
             .some("percentage", &self.percentage)
+            .member("title", &self.title)
             .end()
     }
 }
@@ -244,15 +244,15 @@ impl Default for WorkDoneProgressReport {
 
 impl ToJson for WorkDoneProgressReport {
     ghost stands = { λ it. object_of (
-        (codes "kind", Some (string (codes "report")))
-        ∷ (codes "cancellable", option_map ⟦<bool as ToJson>⟧.stands it.cancellable)
+        (codes "cancellable", option_map ⟦<bool as ToJson>⟧.stands it.cancellable)
+        ∷ (codes "kind", Some (string (codes "report")))
         ∷ (codes "message", option_map ⟦<String as ToJson>⟧.stands it.message)
         ∷ (codes "percentage", option_map ⟦<u32 as ToJson>⟧.stands it.percentage) ∷ []) };
 
     fn to_json(&self, alloc: Global) -> Result<Value, AllocError> {
         Object::new(alloc)
-            .text("kind", "report")
             .some("cancellable", &self.cancellable)
+            .text("kind", "report")
             .some("message", &self.message)
             .some("percentage", &self.percentage)
             .end()

@@ -4,8 +4,8 @@ ghost use Rattle.std.specs.Prelude.{◌∷◌, [], Some, codes, option_map};
 ghost use Rattle.lsp_types.specs.Json.{object_of};
 ghost use Rattle.lsp_types.specs.Reads.{IsObject, Optional, Required, ◌and◌};
 
-use crate::json::{FromJson, Members, Misfit, Object, ToJson};
-use lsp_json::JsonRef;
+use crate::json::{FromJson, Members, Misfit, Object, ToJson, write_member, write_some};
+use lsp_json::{JsonRef, JsonWriteError, JsonWriter};
 use serde_json::Value;
 use std::alloc::{AllocError, Global};
 
@@ -20,14 +20,21 @@ pub struct SemanticTokens {
 
 impl ToJson for SemanticTokens {
     ghost stands = { λ it. object_of (
-        (codes "resultId", option_map ⟦<String as ToJson>⟧.stands it.result_id)
-        ∷ (codes "data", Some (⟦<Vec<u32> as ToJson>⟧.stands it.«data»)) ∷ []) };
+        (codes "data", Some (⟦<Vec<u32> as ToJson>⟧.stands it.«data»))
+        ∷ (codes "resultId", option_map ⟦<String as ToJson>⟧.stands it.result_id) ∷ []) };
 
     fn to_json(&self, alloc: Global) -> Result<Value, AllocError> {
         Object::new(alloc)
-            .some("resultId", &self.result_id)
             .member("data", &self.data)
+            .some("resultId", &self.result_id)
             .end()
+    }
+
+    fn write_json(&self, alloc: Global, out: &mut JsonWriter) -> Result<(), JsonWriteError> {
+        out.begin_object()?;
+        write_member(alloc, out, "data", &self.data)?;
+        write_some(alloc, out, "resultId", &self.result_id)?;
+        out.end_object()
     }
 }
 

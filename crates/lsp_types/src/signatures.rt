@@ -7,10 +7,12 @@ ghost use Rattle.lsp_types.specs.Reads.{IfFits, IsObject, IsWithin, NoneReads, O
 
 use crate::documents::TextDocumentIdentifier;
 use crate::hovers::Documentation;
-use crate::json::{FromJson, Members, Misfit, Object, ToJson, fitting, number_within};
+use crate::json::{
+    FromJson, Members, Misfit, Object, ToJson, fitting, number_within, write_member, write_some,
+};
 use crate::offsets::LabelOffsets;
 use crate::progress::ProgressToken;
-use lsp_json::JsonRef;
+use lsp_json::{JsonRef, JsonWriteError, JsonWriter};
 use lsp_text::Position;
 use serde_json::Value;
 use std::alloc::{AllocError, Global};
@@ -47,16 +49,24 @@ impl SignatureHelp {
 
 impl ToJson for SignatureHelp {
     ghost stands = { λ it. object_of (
-        (codes "signatures", Some (⟦<Vec<SignatureInformation> as ToJson>⟧.stands it.signatures))
+        (codes "activeParameter", option_map ⟦<u32 as ToJson>⟧.stands it.active_parameter)
         ∷ (codes "activeSignature", option_map ⟦<u32 as ToJson>⟧.stands it.active_signature)
-        ∷ (codes "activeParameter", option_map ⟦<u32 as ToJson>⟧.stands it.active_parameter) ∷ []) };
+        ∷ (codes "signatures", Some (⟦<Vec<SignatureInformation> as ToJson>⟧.stands it.signatures)) ∷ []) };
 
     fn to_json(&self, alloc: Global) -> Result<Value, AllocError> {
         Object::new(alloc)
-            .member("signatures", &self.signatures)
-            .some("activeSignature", &self.active_signature)
             .some("activeParameter", &self.active_parameter)
+            .some("activeSignature", &self.active_signature)
+            .member("signatures", &self.signatures)
             .end()
+    }
+
+    fn write_json(&self, alloc: Global, out: &mut JsonWriter) -> Result<(), JsonWriteError> {
+        out.begin_object()?;
+        write_some(alloc, out, "activeParameter", &self.active_parameter)?;
+        write_some(alloc, out, "activeSignature", &self.active_signature)?;
+        write_member(alloc, out, "signatures", &self.signatures)?;
+        out.end_object()
     }
 }
 
@@ -122,18 +132,27 @@ impl SignatureInformation {
 
 impl ToJson for SignatureInformation {
     ghost stands = { λ it. object_of (
-        (codes "label", Some (⟦<String as ToJson>⟧.stands it.label))
+        (codes "activeParameter", option_map ⟦<u32 as ToJson>⟧.stands it.active_parameter)
         ∷ (codes "documentation", option_map ⟦<Documentation as ToJson>⟧.stands it.documentation)
-        ∷ (codes "parameters", option_map ⟦<Vec<ParameterInformation> as ToJson>⟧.stands it.parameters)
-        ∷ (codes "activeParameter", option_map ⟦<u32 as ToJson>⟧.stands it.active_parameter) ∷ []) };
+        ∷ (codes "label", Some (⟦<String as ToJson>⟧.stands it.label))
+        ∷ (codes "parameters", option_map ⟦<Vec<ParameterInformation> as ToJson>⟧.stands it.parameters) ∷ []) };
 
     fn to_json(&self, alloc: Global) -> Result<Value, AllocError> {
         Object::new(alloc)
-            .member("label", &self.label)
-            .some("documentation", &self.documentation)
-            .some("parameters", &self.parameters)
             .some("activeParameter", &self.active_parameter)
+            .some("documentation", &self.documentation)
+            .member("label", &self.label)
+            .some("parameters", &self.parameters)
             .end()
+    }
+
+    fn write_json(&self, alloc: Global, out: &mut JsonWriter) -> Result<(), JsonWriteError> {
+        out.begin_object()?;
+        write_some(alloc, out, "activeParameter", &self.active_parameter)?;
+        write_some(alloc, out, "documentation", &self.documentation)?;
+        write_member(alloc, out, "label", &self.label)?;
+        write_some(alloc, out, "parameters", &self.parameters)?;
+        out.end_object()
     }
 }
 
@@ -189,6 +208,13 @@ impl ToJson for ParameterLabel {
             ParameterLabel::Offsets(it) => it.to_json(alloc),
         }
     }
+
+    fn write_json(&self, alloc: Global, out: &mut JsonWriter) -> Result<(), JsonWriteError> {
+        match self {
+            ParameterLabel::Text(it) => it.write_json(alloc, out),
+            ParameterLabel::Offsets(it) => it.write_json(alloc, out),
+        }
+    }
 }
 
 impl FromJson for ParameterLabel {
@@ -239,14 +265,21 @@ impl ParameterInformation {
 
 impl ToJson for ParameterInformation {
     ghost stands = { λ it. object_of (
-        (codes "label", Some (⟦<ParameterLabel as ToJson>⟧.stands it.label))
-        ∷ (codes "documentation", option_map ⟦<Documentation as ToJson>⟧.stands it.documentation) ∷ []) };
+        (codes "documentation", option_map ⟦<Documentation as ToJson>⟧.stands it.documentation)
+        ∷ (codes "label", Some (⟦<ParameterLabel as ToJson>⟧.stands it.label)) ∷ []) };
 
     fn to_json(&self, alloc: Global) -> Result<Value, AllocError> {
         Object::new(alloc)
-            .member("label", &self.label)
             .some("documentation", &self.documentation)
+            .member("label", &self.label)
             .end()
+    }
+
+    fn write_json(&self, alloc: Global, out: &mut JsonWriter) -> Result<(), JsonWriteError> {
+        out.begin_object()?;
+        write_some(alloc, out, "documentation", &self.documentation)?;
+        write_member(alloc, out, "label", &self.label)?;
+        out.end_object()
     }
 }
 
@@ -320,17 +353,17 @@ pub struct SignatureHelpContext {
 
 impl ToJson for SignatureHelpContext {
     ghost stands = { λ it. object_of (
-        (codes "triggerKind", Some (⟦<SignatureHelpTriggerKind as ToJson>⟧.stands it.trigger_kind))
-        ∷ (codes "triggerCharacter", option_map ⟦<String as ToJson>⟧.stands it.trigger_character)
+        (codes "activeSignatureHelp", option_map ⟦<SignatureHelp as ToJson>⟧.stands it.active_signature_help)
         ∷ (codes "isRetrigger", Some (⟦<bool as ToJson>⟧.stands it.is_retrigger))
-        ∷ (codes "activeSignatureHelp", option_map ⟦<SignatureHelp as ToJson>⟧.stands it.active_signature_help) ∷ []) };
+        ∷ (codes "triggerCharacter", option_map ⟦<String as ToJson>⟧.stands it.trigger_character)
+        ∷ (codes "triggerKind", Some (⟦<SignatureHelpTriggerKind as ToJson>⟧.stands it.trigger_kind)) ∷ []) };
 
     fn to_json(&self, alloc: Global) -> Result<Value, AllocError> {
         Object::new(alloc)
-            .member("triggerKind", &self.trigger_kind)
-            .some("triggerCharacter", &self.trigger_character)
-            .member("isRetrigger", &self.is_retrigger)
             .some("activeSignatureHelp", &self.active_signature_help)
+            .member("isRetrigger", &self.is_retrigger)
+            .some("triggerCharacter", &self.trigger_character)
+            .member("triggerKind", &self.trigger_kind)
             .end()
     }
 }
@@ -382,16 +415,16 @@ pub struct SignatureHelpParams {
 
 impl ToJson for SignatureHelpParams {
     ghost stands = { λ it. object_of (
-        (codes "textDocument", Some (⟦<TextDocumentIdentifier as ToJson>⟧.stands it.text_document))
+        (codes "context", option_map ⟦<SignatureHelpContext as ToJson>⟧.stands it.context)
         ∷ (codes "position", Some (⟦<Position as ToJson>⟧.stands it.position))
-        ∷ (codes "context", option_map ⟦<SignatureHelpContext as ToJson>⟧.stands it.context)
+        ∷ (codes "textDocument", Some (⟦<TextDocumentIdentifier as ToJson>⟧.stands it.text_document))
         ∷ (codes "workDoneToken", option_map ⟦<ProgressToken as ToJson>⟧.stands it.work_done_token) ∷ []) };
 
     fn to_json(&self, alloc: Global) -> Result<Value, AllocError> {
         Object::new(alloc)
-            .member("textDocument", &self.text_document)
-            .member("position", &self.position)
             .some("context", &self.context)
+            .member("position", &self.position)
+            .member("textDocument", &self.text_document)
             .some("workDoneToken", &self.work_done_token)
             .end()
     }

@@ -7,9 +7,11 @@ ghost use Rattle.lsp_types.specs.Json.{object_of, object_with};
 ghost use Rattle.lsp_types.specs.Reads.{Beside, IfFits, IsObject, IsWithin, NoneReads, Optional, Required, ◌and◌};
 
 use crate::documents::{Location, TextDocumentIdentifier};
-use crate::json::{FromJson, Members, Misfit, Object, ToJson, fitting, number_within};
+use crate::json::{
+    FromJson, Members, Misfit, Object, ToJson, fitting, number_within, write_member, write_some,
+};
 use crate::progress::ProgressToken;
-use lsp_json::JsonRef;
+use lsp_json::{JsonRef, JsonWriteError, JsonWriter};
 use lsp_text::Range;
 use serde_json::Value;
 use std::alloc::{AllocError, Global};
@@ -79,6 +81,10 @@ impl ToJson for SymbolKind {
     fn to_json(&self, alloc: Global) -> Result<Value, AllocError> {
         self.0.to_json(alloc)
     }
+
+    fn write_json(&self, alloc: Global, out: &mut JsonWriter) -> Result<(), JsonWriteError> {
+        self.0.write_json(alloc, out)
+    }
 }
 
 impl FromJson for SymbolKind {
@@ -106,6 +112,10 @@ impl ToJson for SymbolTag {
 
     fn to_json(&self, alloc: Global) -> Result<Value, AllocError> {
         self.0.to_json(alloc)
+    }
+
+    fn write_json(&self, alloc: Global, out: &mut JsonWriter) -> Result<(), JsonWriteError> {
+        self.0.write_json(alloc, out)
     }
 }
 
@@ -222,22 +232,33 @@ impl SymbolInformation {
 
 impl ToJson for SymbolInformation {
     ghost stands = { λ it. object_of (
-        (codes "name", Some (⟦<String as ToJson>⟧.stands it.name))
-        ∷ (codes "kind", Some (⟦<SymbolKind as ToJson>⟧.stands it.kind))
-        ∷ (codes "tags", option_map ⟦<Vec<SymbolTag> as ToJson>⟧.stands it.tags)
+        (codes "containerName", option_map ⟦<String as ToJson>⟧.stands it.container_name)
         ∷ (codes "deprecated", option_map ⟦<bool as ToJson>⟧.stands it.deprecated)
+        ∷ (codes "kind", Some (⟦<SymbolKind as ToJson>⟧.stands it.kind))
         ∷ (codes "location", Some (⟦<Location as ToJson>⟧.stands it.location))
-        ∷ (codes "containerName", option_map ⟦<String as ToJson>⟧.stands it.container_name) ∷ []) };
+        ∷ (codes "name", Some (⟦<String as ToJson>⟧.stands it.name))
+        ∷ (codes "tags", option_map ⟦<Vec<SymbolTag> as ToJson>⟧.stands it.tags) ∷ []) };
 
     fn to_json(&self, alloc: Global) -> Result<Value, AllocError> {
         Object::new(alloc)
-            .member("name", &self.name)
-            .member("kind", &self.kind)
-            .some("tags", &self.tags)
-            .some("deprecated", &self.deprecated)
-            .member("location", &self.location)
             .some("containerName", &self.container_name)
+            .some("deprecated", &self.deprecated)
+            .member("kind", &self.kind)
+            .member("location", &self.location)
+            .member("name", &self.name)
+            .some("tags", &self.tags)
             .end()
+    }
+
+    fn write_json(&self, alloc: Global, out: &mut JsonWriter) -> Result<(), JsonWriteError> {
+        out.begin_object()?;
+        write_some(alloc, out, "containerName", &self.container_name)?;
+        write_some(alloc, out, "deprecated", &self.deprecated)?;
+        write_member(alloc, out, "kind", &self.kind)?;
+        write_member(alloc, out, "location", &self.location)?;
+        write_member(alloc, out, "name", &self.name)?;
+        write_some(alloc, out, "tags", &self.tags)?;
+        out.end_object()
     }
 }
 
@@ -300,6 +321,13 @@ impl ToJson for DocumentSymbolResult {
             DocumentSymbolResult::Information(it) => it.to_json(alloc),
         }
     }
+
+    fn write_json(&self, alloc: Global, out: &mut JsonWriter) -> Result<(), JsonWriteError> {
+        match self {
+            DocumentSymbolResult::Symbols(it) => it.write_json(alloc, out),
+            DocumentSymbolResult::Information(it) => it.write_json(alloc, out),
+        }
+    }
 }
 
 impl FromJson for DocumentSymbolResult {
@@ -336,15 +364,15 @@ pub struct WorkspaceSymbolParams {
 
 impl ToJson for WorkspaceSymbolParams {
     ghost stands = { λ it. object_of (
-        (codes "query", Some (⟦<String as ToJson>⟧.stands it.query))
-        ∷ (codes "workDoneToken", option_map ⟦<ProgressToken as ToJson>⟧.stands it.work_done_token)
-        ∷ (codes "partialResultToken", option_map ⟦<ProgressToken as ToJson>⟧.stands it.partial_result_token) ∷ []) };
+        (codes "partialResultToken", option_map ⟦<ProgressToken as ToJson>⟧.stands it.partial_result_token)
+        ∷ (codes "query", Some (⟦<String as ToJson>⟧.stands it.query))
+        ∷ (codes "workDoneToken", option_map ⟦<ProgressToken as ToJson>⟧.stands it.work_done_token) ∷ []) };
 
     fn to_json(&self, alloc: Global) -> Result<Value, AllocError> {
         Object::new(alloc)
+            .some("partialResultToken", &self.partial_result_token)
             .member("query", &self.query)
             .some("workDoneToken", &self.work_done_token)
-            .some("partialResultToken", &self.partial_result_token)
             .end()
     }
 }
@@ -396,6 +424,13 @@ impl ToJson for WorkspaceSymbolLocation {
         match self {
             WorkspaceSymbolLocation::Place(it) => it.to_json(alloc),
             WorkspaceSymbolLocation::Document(it) => it.to_json(alloc),
+        }
+    }
+
+    fn write_json(&self, alloc: Global, out: &mut JsonWriter) -> Result<(), JsonWriteError> {
+        match self {
+            WorkspaceSymbolLocation::Place(it) => it.write_json(alloc, out),
+            WorkspaceSymbolLocation::Document(it) => it.write_json(alloc, out),
         }
     }
 }
@@ -476,25 +511,41 @@ impl WorkspaceSymbol {
 
 impl ToJson for WorkspaceSymbol {
     ghost stands = { λ it. object_with (
-        (codes "name", Some (⟦<String as ToJson>⟧.stands it.name))
-        ∷ (codes "kind", Some (⟦<SymbolKind as ToJson>⟧.stands it.kind))
-        ∷ (codes "tags", option_map ⟦<Vec<SymbolTag> as ToJson>⟧.stands it.tags)
+        (codes "containerName", option_map ⟦<String as ToJson>⟧.stands it.container_name)
+        ∷ (codes "data", option_map ⟦<Value as ToJson>⟧.stands it.«data»)
         ∷ (codes "deprecated", option_map ⟦<bool as ToJson>⟧.stands it.deprecated)
-        ∷ (codes "containerName", option_map ⟦<String as ToJson>⟧.stands it.container_name)
+        ∷ (codes "kind", Some (⟦<SymbolKind as ToJson>⟧.stands it.kind))
         ∷ (codes "location", Some (⟦<WorkspaceSymbolLocation as ToJson>⟧.stands it.location))
-        ∷ (codes "data", option_map ⟦<Value as ToJson>⟧.stands it.«data») ∷ []) (option_map view it.more) };
+        ∷ (codes "name", Some (⟦<String as ToJson>⟧.stands it.name))
+        ∷ (codes "tags", option_map ⟦<Vec<SymbolTag> as ToJson>⟧.stands it.tags) ∷ []) (option_map view it.more) };
 
     fn to_json(&self, alloc: Global) -> Result<Value, AllocError> {
         Object::new(alloc)
-            .member("name", &self.name)
-            .member("kind", &self.kind)
-            .some("tags", &self.tags)
-            .some("deprecated", &self.deprecated)
             .some("containerName", &self.container_name)
-            .member("location", &self.location)
             .some("data", &self.data)
+            .some("deprecated", &self.deprecated)
+            .member("kind", &self.kind)
+            .member("location", &self.location)
+            .member("name", &self.name)
+            .some("tags", &self.tags)
             .rest(&self.more)
             .end()
+    }
+
+    fn write_json(&self, alloc: Global, out: &mut JsonWriter) -> Result<(), JsonWriteError> {
+        if self.more.is_some() {
+            let tree = self.to_json(alloc)?;
+            return out.value(&tree);
+        }
+        out.begin_object()?;
+        write_some(alloc, out, "containerName", &self.container_name)?;
+        write_some(alloc, out, "data", &self.data)?;
+        write_some(alloc, out, "deprecated", &self.deprecated)?;
+        write_member(alloc, out, "kind", &self.kind)?;
+        write_member(alloc, out, "location", &self.location)?;
+        write_member(alloc, out, "name", &self.name)?;
+        write_some(alloc, out, "tags", &self.tags)?;
+        out.end_object()
     }
 }
 

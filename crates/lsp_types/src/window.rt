@@ -56,13 +56,13 @@ pub struct ShowMessageParams {
 
 impl ToJson for ShowMessageParams {
     ghost stands = { λ it. object_of (
-        (codes "type", Some (⟦<MessageType as ToJson>⟧.stands it.typ))
-        ∷ (codes "message", Some (⟦<String as ToJson>⟧.stands it.message)) ∷ []) };
+        (codes "message", Some (⟦<String as ToJson>⟧.stands it.message))
+        ∷ (codes "type", Some (⟦<MessageType as ToJson>⟧.stands it.typ)) ∷ []) };
 
     fn to_json(&self, alloc: Global) -> Result<Value, AllocError> {
         Object::new(alloc)
-            .member("type", &self.typ)
             .member("message", &self.message)
+            .member("type", &self.typ)
             .end()
     }
 }
@@ -120,15 +120,15 @@ impl ShowMessageRequestParams {
 
 impl ToJson for ShowMessageRequestParams {
     ghost stands = { λ it. object_of (
-        (codes "type", Some (⟦<MessageType as ToJson>⟧.stands it.typ))
+        (codes "actions", option_map ⟦<Vec<MessageActionItem> as ToJson>⟧.stands it.actions)
         ∷ (codes "message", Some (⟦<String as ToJson>⟧.stands it.message))
-        ∷ (codes "actions", option_map ⟦<Vec<MessageActionItem> as ToJson>⟧.stands it.actions) ∷ []) };
+        ∷ (codes "type", Some (⟦<MessageType as ToJson>⟧.stands it.typ)) ∷ []) };
 
     fn to_json(&self, alloc: Global) -> Result<Value, AllocError> {
         Object::new(alloc)
-            .member("type", &self.typ)
-            .member("message", &self.message)
             .some("actions", &self.actions)
+            .member("message", &self.message)
+            .member("type", &self.typ)
             .end()
     }
 }
@@ -226,17 +226,17 @@ impl ShowDocumentParams {
 
 impl ToJson for ShowDocumentParams {
     ghost stands = { λ it. object_of (
-        (codes "uri", Some (⟦<String as ToJson>⟧.stands it.uri))
-        ∷ (codes "external", option_map ⟦<bool as ToJson>⟧.stands it.external)
+        (codes "external", option_map ⟦<bool as ToJson>⟧.stands it.external)
+        ∷ (codes "selection", option_map ⟦<Range as ToJson>⟧.stands it.selection)
         ∷ (codes "takeFocus", option_map ⟦<bool as ToJson>⟧.stands it.take_focus)
-        ∷ (codes "selection", option_map ⟦<Range as ToJson>⟧.stands it.selection) ∷ []) };
+        ∷ (codes "uri", Some (⟦<String as ToJson>⟧.stands it.uri)) ∷ []) };
 
     fn to_json(&self, alloc: Global) -> Result<Value, AllocError> {
         Object::new(alloc)
-            .member("uri", &self.uri)
             .some("external", &self.external)
-            .some("takeFocus", &self.take_focus)
             .some("selection", &self.selection)
+            .some("takeFocus", &self.take_focus)
+            .member("uri", &self.uri)
             .end()
     }
 }

@@ -6,9 +6,11 @@ ghost use Rattle.lsp_types.specs.Json.{object_of};
 ghost use Rattle.lsp_types.specs.Reads.{IfFits, IsObject, IsWithin, Optional, Required, ◌and◌};
 
 use crate::edits::WorkspaceEdit;
-use crate::json::{FromJson, Members, Misfit, Object, ToJson, number_within};
+use crate::json::{
+    FromJson, Members, Misfit, Object, ToJson, number_within, write_member, write_some,
+};
 use crate::progress::ProgressToken;
-use lsp_json::JsonRef;
+use lsp_json::{JsonRef, JsonWriteError, JsonWriter};
 use serde_json::Value;
 use std::alloc::{AllocError, Global};
 
@@ -23,13 +25,13 @@ pub struct WorkspaceFolder {
 
 impl ToJson for WorkspaceFolder {
     ghost stands = { λ it. object_of (
-        (codes "uri", Some (⟦<String as ToJson>⟧.stands it.uri))
-        ∷ (codes "name", option_map ⟦<String as ToJson>⟧.stands it.name) ∷ []) };
+        (codes "name", option_map ⟦<String as ToJson>⟧.stands it.name)
+        ∷ (codes "uri", Some (⟦<String as ToJson>⟧.stands it.uri)) ∷ []) };
 
     fn to_json(&self, alloc: Global) -> Result<Value, AllocError> {
         Object::new(alloc)
-            .member("uri", &self.uri)
             .some("name", &self.name)
+            .member("uri", &self.uri)
             .end()
     }
 }
@@ -210,13 +212,13 @@ pub struct FileEvent {
 
 impl ToJson for FileEvent {
     ghost stands = { λ it. object_of (
-        (codes "uri", Some (⟦<String as ToJson>⟧.stands it.uri))
-        ∷ (codes "type", Some (⟦<FileChangeType as ToJson>⟧.stands it.typ)) ∷ []) };
+        (codes "type", Some (⟦<FileChangeType as ToJson>⟧.stands it.typ))
+        ∷ (codes "uri", Some (⟦<String as ToJson>⟧.stands it.uri)) ∷ []) };
 
     fn to_json(&self, alloc: Global) -> Result<Value, AllocError> {
         Object::new(alloc)
-            .member("uri", &self.uri)
             .member("type", &self.typ)
+            .member("uri", &self.uri)
             .end()
     }
 }
@@ -398,16 +400,24 @@ impl Command {
 
 impl ToJson for Command {
     ghost stands = { λ it. object_of (
-        (codes "title", Some (⟦<String as ToJson>⟧.stands it.title))
+        (codes "arguments", option_map ⟦<Vec<Value> as ToJson>⟧.stands it.arguments)
         ∷ (codes "command", Some (⟦<String as ToJson>⟧.stands it.command))
-        ∷ (codes "arguments", option_map ⟦<Vec<Value> as ToJson>⟧.stands it.arguments) ∷ []) };
+        ∷ (codes "title", Some (⟦<String as ToJson>⟧.stands it.title)) ∷ []) };
 
     fn to_json(&self, alloc: Global) -> Result<Value, AllocError> {
         Object::new(alloc)
-            .member("title", &self.title)
-            .member("command", &self.command)
             .some("arguments", &self.arguments)
+            .member("command", &self.command)
+            .member("title", &self.title)
             .end()
+    }
+
+    fn write_json(&self, alloc: Global, out: &mut JsonWriter) -> Result<(), JsonWriteError> {
+        out.begin_object()?;
+        write_some(alloc, out, "arguments", &self.arguments)?;
+        write_member(alloc, out, "command", &self.command)?;
+        write_member(alloc, out, "title", &self.title)?;
+        out.end_object()
     }
 }
 
@@ -450,14 +460,14 @@ pub struct ExecuteCommandParams {
 
 impl ToJson for ExecuteCommandParams {
     ghost stands = { λ it. object_of (
-        (codes "command", Some (⟦<String as ToJson>⟧.stands it.command))
-        ∷ (codes "arguments", option_map ⟦<Vec<Value> as ToJson>⟧.stands it.arguments)
+        (codes "arguments", option_map ⟦<Vec<Value> as ToJson>⟧.stands it.arguments)
+        ∷ (codes "command", Some (⟦<String as ToJson>⟧.stands it.command))
         ∷ (codes "workDoneToken", option_map ⟦<ProgressToken as ToJson>⟧.stands it.work_done_token) ∷ []) };
 
     fn to_json(&self, alloc: Global) -> Result<Value, AllocError> {
         Object::new(alloc)
-            .member("command", &self.command)
             .some("arguments", &self.arguments)
+            .member("command", &self.command)
             .some("workDoneToken", &self.work_done_token)
             .end()
     }
@@ -514,13 +524,13 @@ impl ApplyWorkspaceEditParams {
 
 impl ToJson for ApplyWorkspaceEditParams {
     ghost stands = { λ it. object_of (
-        (codes "label", option_map ⟦<String as ToJson>⟧.stands it.label)
-        ∷ (codes "edit", Some (⟦<WorkspaceEdit as ToJson>⟧.stands it.edit)) ∷ []) };
+        (codes "edit", Some (⟦<WorkspaceEdit as ToJson>⟧.stands it.edit))
+        ∷ (codes "label", option_map ⟦<String as ToJson>⟧.stands it.label) ∷ []) };
 
     fn to_json(&self, alloc: Global) -> Result<Value, AllocError> {
         Object::new(alloc)
-            .some("label", &self.label)
             .member("edit", &self.edit)
+            .some("label", &self.label)
             .end()
     }
 }
@@ -559,14 +569,14 @@ pub struct ApplyWorkspaceEditResult {
 impl ToJson for ApplyWorkspaceEditResult {
     ghost stands = { λ it. object_of (
         (codes "applied", Some (⟦<bool as ToJson>⟧.stands it.applied))
-        ∷ (codes "failureReason", option_map ⟦<String as ToJson>⟧.stands it.failure_reason)
-        ∷ (codes "failedChange", option_map ⟦<u32 as ToJson>⟧.stands it.failed_change) ∷ []) };
+        ∷ (codes "failedChange", option_map ⟦<u32 as ToJson>⟧.stands it.failed_change)
+        ∷ (codes "failureReason", option_map ⟦<String as ToJson>⟧.stands it.failure_reason) ∷ []) };
 
     fn to_json(&self, alloc: Global) -> Result<Value, AllocError> {
         Object::new(alloc)
             .member("applied", &self.applied)
-            .some("failureReason", &self.failure_reason)
             .some("failedChange", &self.failed_change)
+            .some("failureReason", &self.failure_reason)
             .end()
     }
 }

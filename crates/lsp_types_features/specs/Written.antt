@@ -9,7 +9,7 @@ use Rattle.lsp_types_features.specs.declared.places.SelectionRange.TheFolds.{fol
 
 -- a part, with what the one around it stands for
 abbrev pub selection_with : {A : Type 0} → SelectionRange-F A → Option Data → Data
-selection_with it parent = object_of ((codes "range", Some (range it.range)) ∷ (codes "parent", parent) ∷ [])
+selection_with it parent = object_of ((codes "parent", parent) ∷ (codes "range", Some (range it.range)) ∷ [])
 
 -- a part, of which the one around it is already what it stands for
 abbrev pub selection_step : SelectionRange-F Data → Data

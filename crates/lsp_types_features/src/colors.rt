@@ -4,9 +4,9 @@ ghost use Rattle.std.specs.Prelude.{◌∷◌, [], Some, codes, option_map};
 ghost use Rattle.lsp_types.specs.Json.{object_of};
 ghost use Rattle.lsp_types.specs.Reads.{IfFits, IsObject, Optional, Required, ◌and◌};
 
-use lsp_json::JsonRef;
+use lsp_json::{JsonRef, JsonWriteError, JsonWriter};
 use lsp_text::Range;
-use lsp_types::json::{FromJson, Members, Misfit, Object, ToJson};
+use lsp_types::json::{FromJson, Members, Misfit, Object, ToJson, write_member, write_some};
 use lsp_types::{DocumentSymbolParams, ProgressToken, TextDocumentIdentifier, TextEdit};
 use serde_json::Value;
 use std::alloc::{AllocError, Global};
@@ -30,18 +30,27 @@ pub struct Color {
 
 impl ToJson for Color {
     ghost stands = { λ it. object_of (
-        (codes "red", Some (⟦<f64 as ToJson>⟧.stands it.red))
-        ∷ (codes "green", Some (⟦<f64 as ToJson>⟧.stands it.green))
+        (codes "alpha", Some (⟦<f64 as ToJson>⟧.stands it.alpha))
         ∷ (codes "blue", Some (⟦<f64 as ToJson>⟧.stands it.blue))
-        ∷ (codes "alpha", Some (⟦<f64 as ToJson>⟧.stands it.alpha)) ∷ []) };
+        ∷ (codes "green", Some (⟦<f64 as ToJson>⟧.stands it.green))
+        ∷ (codes "red", Some (⟦<f64 as ToJson>⟧.stands it.red)) ∷ []) };
 
     fn to_json(&self, alloc: Global) -> Result<Value, AllocError> {
         Object::new(alloc)
-            .member("red", &self.red)
-            .member("green", &self.green)
-            .member("blue", &self.blue)
             .member("alpha", &self.alpha)
+            .member("blue", &self.blue)
+            .member("green", &self.green)
+            .member("red", &self.red)
             .end()
+    }
+
+    fn write_json(&self, alloc: Global, out: &mut JsonWriter) -> Result<(), JsonWriteError> {
+        out.begin_object()?;
+        write_member(alloc, out, "alpha", &self.alpha)?;
+        write_member(alloc, out, "blue", &self.blue)?;
+        write_member(alloc, out, "green", &self.green)?;
+        write_member(alloc, out, "red", &self.red)?;
+        out.end_object()
     }
 }
 
@@ -85,14 +94,21 @@ pub struct ColorInformation {
 
 impl ToJson for ColorInformation {
     ghost stands = { λ it. object_of (
-        (codes "range", Some (⟦<Range as ToJson>⟧.stands it.range))
-        ∷ (codes "color", Some (⟦<Color as ToJson>⟧.stands it.color)) ∷ []) };
+        (codes "color", Some (⟦<Color as ToJson>⟧.stands it.color))
+        ∷ (codes "range", Some (⟦<Range as ToJson>⟧.stands it.range)) ∷ []) };
 
     fn to_json(&self, alloc: Global) -> Result<Value, AllocError> {
         Object::new(alloc)
-            .member("range", &self.range)
             .member("color", &self.color)
+            .member("range", &self.range)
             .end()
+    }
+
+    fn write_json(&self, alloc: Global, out: &mut JsonWriter) -> Result<(), JsonWriteError> {
+        out.begin_object()?;
+        write_member(alloc, out, "color", &self.color)?;
+        write_member(alloc, out, "range", &self.range)?;
+        out.end_object()
     }
 }
 
@@ -135,19 +151,19 @@ pub struct ColorPresentationParams {
 
 impl ToJson for ColorPresentationParams {
     ghost stands = { λ it. object_of (
-        (codes "textDocument", Some (⟦<TextDocumentIdentifier as ToJson>⟧.stands it.text_document))
-        ∷ (codes "color", Some (⟦<Color as ToJson>⟧.stands it.color))
+        (codes "color", Some (⟦<Color as ToJson>⟧.stands it.color))
+        ∷ (codes "partialResultToken", option_map ⟦<ProgressToken as ToJson>⟧.stands it.partial_result_token)
         ∷ (codes "range", Some (⟦<Range as ToJson>⟧.stands it.range))
-        ∷ (codes "workDoneToken", option_map ⟦<ProgressToken as ToJson>⟧.stands it.work_done_token)
-        ∷ (codes "partialResultToken", option_map ⟦<ProgressToken as ToJson>⟧.stands it.partial_result_token) ∷ []) };
+        ∷ (codes "textDocument", Some (⟦<TextDocumentIdentifier as ToJson>⟧.stands it.text_document))
+        ∷ (codes "workDoneToken", option_map ⟦<ProgressToken as ToJson>⟧.stands it.work_done_token) ∷ []) };
 
     fn to_json(&self, alloc: Global) -> Result<Value, AllocError> {
         Object::new(alloc)
-            .member("textDocument", &self.text_document)
             .member("color", &self.color)
-            .member("range", &self.range)
-            .some("workDoneToken", &self.work_done_token)
             .some("partialResultToken", &self.partial_result_token)
+            .member("range", &self.range)
+            .member("textDocument", &self.text_document)
+            .some("workDoneToken", &self.work_done_token)
             .end()
     }
 }
@@ -220,16 +236,29 @@ impl ColorPresentation {
 
 impl ToJson for ColorPresentation {
     ghost stands = { λ it. object_of (
-        (codes "label", Some (⟦<String as ToJson>⟧.stands it.label))
-        ∷ (codes "textEdit", option_map ⟦<TextEdit as ToJson>⟧.stands it.text_edit)
-        ∷ (codes "additionalTextEdits", option_map ⟦<Vec<TextEdit> as ToJson>⟧.stands it.additional_text_edits) ∷ []) };
+        (codes "additionalTextEdits", option_map ⟦<Vec<TextEdit> as ToJson>⟧.stands it.additional_text_edits)
+        ∷ (codes "label", Some (⟦<String as ToJson>⟧.stands it.label))
+        ∷ (codes "textEdit", option_map ⟦<TextEdit as ToJson>⟧.stands it.text_edit) ∷ []) };
 
     fn to_json(&self, alloc: Global) -> Result<Value, AllocError> {
         Object::new(alloc)
+            .some("additionalTextEdits", &self.additional_text_edits)
             .member("label", &self.label)
             .some("textEdit", &self.text_edit)
-            .some("additionalTextEdits", &self.additional_text_edits)
             .end()
+    }
+
+    fn write_json(&self, alloc: Global, out: &mut JsonWriter) -> Result<(), JsonWriteError> {
+        out.begin_object()?;
+        write_some(
+            alloc,
+            out,
+            "additionalTextEdits",
+            &self.additional_text_edits,
+        )?;
+        write_member(alloc, out, "label", &self.label)?;
+        write_some(alloc, out, "textEdit", &self.text_edit)?;
+        out.end_object()
     }
 }
 

@@ -5,9 +5,9 @@ ghost use Rattle.serde_json.specs.View.{view};
 ghost use Rattle.lsp_types.specs.Json.{object_of, object_with};
 ghost use Rattle.lsp_types.specs.Reads.{Beside, IfFits, IsObject, Optional, Required, ◌and◌};
 
-use lsp_json::JsonRef;
+use lsp_json::{JsonRef, JsonWriteError, JsonWriter};
 use lsp_text::Range;
-use lsp_types::json::{FromJson, Members, Misfit, Object, ToJson};
+use lsp_types::json::{FromJson, Members, Misfit, Object, ToJson, write_member, write_some};
 use lsp_types::{HoverParams, ProgressToken, SymbolKind, SymbolTag};
 use serde_json::Value;
 use std::alloc::{AllocError, Global};
@@ -80,27 +80,44 @@ impl CallHierarchyItem {
 
 impl ToJson for CallHierarchyItem {
     ghost stands = { λ it. object_with (
-        (codes "name", Some (⟦<String as ToJson>⟧.stands it.name))
-        ∷ (codes "kind", Some (⟦<SymbolKind as ToJson>⟧.stands it.kind))
-        ∷ (codes "tags", option_map ⟦<Vec<SymbolTag> as ToJson>⟧.stands it.tags)
+        (codes "data", option_map ⟦<Value as ToJson>⟧.stands it.«data»)
         ∷ (codes "detail", option_map ⟦<String as ToJson>⟧.stands it.detail)
-        ∷ (codes "uri", Some (⟦<String as ToJson>⟧.stands it.uri))
+        ∷ (codes "kind", Some (⟦<SymbolKind as ToJson>⟧.stands it.kind))
+        ∷ (codes "name", Some (⟦<String as ToJson>⟧.stands it.name))
         ∷ (codes "range", Some (⟦<Range as ToJson>⟧.stands it.range))
         ∷ (codes "selectionRange", Some (⟦<Range as ToJson>⟧.stands it.selection_range))
-        ∷ (codes "data", option_map ⟦<Value as ToJson>⟧.stands it.«data») ∷ []) (option_map view it.more) };
+        ∷ (codes "tags", option_map ⟦<Vec<SymbolTag> as ToJson>⟧.stands it.tags)
+        ∷ (codes "uri", Some (⟦<String as ToJson>⟧.stands it.uri)) ∷ []) (option_map view it.more) };
 
     fn to_json(&self, alloc: Global) -> Result<Value, AllocError> {
         Object::new(alloc)
-            .member("name", &self.name)
-            .member("kind", &self.kind)
-            .some("tags", &self.tags)
+            .some("data", &self.data)
             .some("detail", &self.detail)
-            .member("uri", &self.uri)
+            .member("kind", &self.kind)
+            .member("name", &self.name)
             .member("range", &self.range)
             .member("selectionRange", &self.selection_range)
-            .some("data", &self.data)
+            .some("tags", &self.tags)
+            .member("uri", &self.uri)
             .rest(&self.more)
             .end()
+    }
+
+    fn write_json(&self, alloc: Global, out: &mut JsonWriter) -> Result<(), JsonWriteError> {
+        if self.more.is_some() {
+            let tree = self.to_json(alloc)?;
+            return out.value(&tree);
+        }
+        out.begin_object()?;
+        write_some(alloc, out, "data", &self.data)?;
+        write_some(alloc, out, "detail", &self.detail)?;
+        write_member(alloc, out, "kind", &self.kind)?;
+        write_member(alloc, out, "name", &self.name)?;
+        write_member(alloc, out, "range", &self.range)?;
+        write_member(alloc, out, "selectionRange", &self.selection_range)?;
+        write_some(alloc, out, "tags", &self.tags)?;
+        write_member(alloc, out, "uri", &self.uri)?;
+        out.end_object()
     }
 }
 
@@ -181,14 +198,14 @@ pub struct CallHierarchyIncomingCallsParams {
 impl ToJson for CallHierarchyIncomingCallsParams {
     ghost stands = { λ it. object_of (
         (codes "item", Some (⟦<CallHierarchyItem as ToJson>⟧.stands it.item))
-        ∷ (codes "workDoneToken", option_map ⟦<ProgressToken as ToJson>⟧.stands it.work_done_token)
-        ∷ (codes "partialResultToken", option_map ⟦<ProgressToken as ToJson>⟧.stands it.partial_result_token) ∷ []) };
+        ∷ (codes "partialResultToken", option_map ⟦<ProgressToken as ToJson>⟧.stands it.partial_result_token)
+        ∷ (codes "workDoneToken", option_map ⟦<ProgressToken as ToJson>⟧.stands it.work_done_token) ∷ []) };
 
     fn to_json(&self, alloc: Global) -> Result<Value, AllocError> {
         Object::new(alloc)
             .member("item", &self.item)
-            .some("workDoneToken", &self.work_done_token)
             .some("partialResultToken", &self.partial_result_token)
+            .some("workDoneToken", &self.work_done_token)
             .end()
     }
 }
@@ -242,6 +259,13 @@ impl ToJson for CallHierarchyIncomingCall {
             .member("fromRanges", &self.from_ranges)
             .end()
     }
+
+    fn write_json(&self, alloc: Global, out: &mut JsonWriter) -> Result<(), JsonWriteError> {
+        out.begin_object()?;
+        write_member(alloc, out, "from", &self.from)?;
+        write_member(alloc, out, "fromRanges", &self.from_ranges)?;
+        out.end_object()
+    }
 }
 
 impl FromJson for CallHierarchyIncomingCall {
@@ -279,14 +303,21 @@ pub struct CallHierarchyOutgoingCall {
 
 impl ToJson for CallHierarchyOutgoingCall {
     ghost stands = { λ it. object_of (
-        (codes "to", Some (⟦<CallHierarchyItem as ToJson>⟧.stands it.to))
-        ∷ (codes "fromRanges", Some (⟦<Vec<Range> as ToJson>⟧.stands it.from_ranges)) ∷ []) };
+        (codes "fromRanges", Some (⟦<Vec<Range> as ToJson>⟧.stands it.from_ranges))
+        ∷ (codes "to", Some (⟦<CallHierarchyItem as ToJson>⟧.stands it.to)) ∷ []) };
 
     fn to_json(&self, alloc: Global) -> Result<Value, AllocError> {
         Object::new(alloc)
-            .member("to", &self.to)
             .member("fromRanges", &self.from_ranges)
+            .member("to", &self.to)
             .end()
+    }
+
+    fn write_json(&self, alloc: Global, out: &mut JsonWriter) -> Result<(), JsonWriteError> {
+        out.begin_object()?;
+        write_member(alloc, out, "fromRanges", &self.from_ranges)?;
+        write_member(alloc, out, "to", &self.to)?;
+        out.end_object()
     }
 }
 

@@ -4,9 +4,11 @@ ghost use Rattle.std.specs.Prelude.{◌∷◌, [], Some, codes, option_map};
 ghost use Rattle.lsp_types.specs.Json.{object_of};
 ghost use Rattle.lsp_types.specs.Reads.{IfFits, IsObject, NoneReads, Optional, Required, ◌and◌};
 
-use lsp_json::JsonRef;
+use lsp_json::{JsonRef, JsonWriteError, JsonWriter};
 use lsp_text::Range;
-use lsp_types::json::{FromJson, Members, Misfit, Object, ToJson, fitting};
+use lsp_types::json::{
+    FromJson, Members, Misfit, Object, ToJson, fitting, write_member, write_some,
+};
 use lsp_types::{ProgressToken, TextDocumentIdentifier};
 use serde_json::Value;
 use std::alloc::{AllocError, Global};
@@ -27,16 +29,16 @@ pub struct InlineValueParams {
 
 impl ToJson for InlineValueParams {
     ghost stands = { λ it. object_of (
-        (codes "textDocument", Some (⟦<TextDocumentIdentifier as ToJson>⟧.stands it.text_document))
+        (codes "context", Some (⟦<InlineValueContext as ToJson>⟧.stands it.context))
         ∷ (codes "range", Some (⟦<Range as ToJson>⟧.stands it.range))
-        ∷ (codes "context", Some (⟦<InlineValueContext as ToJson>⟧.stands it.context))
+        ∷ (codes "textDocument", Some (⟦<TextDocumentIdentifier as ToJson>⟧.stands it.text_document))
         ∷ (codes "workDoneToken", option_map ⟦<ProgressToken as ToJson>⟧.stands it.work_done_token) ∷ []) };
 
     fn to_json(&self, alloc: Global) -> Result<Value, AllocError> {
         Object::new(alloc)
-            .member("textDocument", &self.text_document)
-            .member("range", &self.range)
             .member("context", &self.context)
+            .member("range", &self.range)
+            .member("textDocument", &self.text_document)
             .some("workDoneToken", &self.work_done_token)
             .end()
     }
@@ -136,6 +138,13 @@ impl ToJson for InlineValueText {
             .member("text", &self.text)
             .end()
     }
+
+    fn write_json(&self, alloc: Global, out: &mut JsonWriter) -> Result<(), JsonWriteError> {
+        out.begin_object()?;
+        write_member(alloc, out, "range", &self.range)?;
+        write_member(alloc, out, "text", &self.text)?;
+        out.end_object()
+    }
 }
 
 impl FromJson for InlineValueText {
@@ -190,16 +199,29 @@ impl InlineValueVariableLookup {
 
 impl ToJson for InlineValueVariableLookup {
     ghost stands = { λ it. object_of (
-        (codes "range", Some (⟦<Range as ToJson>⟧.stands it.range))
-        ∷ (codes "variableName", option_map ⟦<String as ToJson>⟧.stands it.variable_name)
-        ∷ (codes "caseSensitiveLookup", Some (⟦<bool as ToJson>⟧.stands it.case_sensitive_lookup)) ∷ []) };
+        (codes "caseSensitiveLookup", Some (⟦<bool as ToJson>⟧.stands it.case_sensitive_lookup))
+        ∷ (codes "range", Some (⟦<Range as ToJson>⟧.stands it.range))
+        ∷ (codes "variableName", option_map ⟦<String as ToJson>⟧.stands it.variable_name) ∷ []) };
 
     fn to_json(&self, alloc: Global) -> Result<Value, AllocError> {
         Object::new(alloc)
+            .member("caseSensitiveLookup", &self.case_sensitive_lookup)
             .member("range", &self.range)
             .some("variableName", &self.variable_name)
-            .member("caseSensitiveLookup", &self.case_sensitive_lookup)
             .end()
+    }
+
+    fn write_json(&self, alloc: Global, out: &mut JsonWriter) -> Result<(), JsonWriteError> {
+        out.begin_object()?;
+        write_member(
+            alloc,
+            out,
+            "caseSensitiveLookup",
+            &self.case_sensitive_lookup,
+        )?;
+        write_member(alloc, out, "range", &self.range)?;
+        write_some(alloc, out, "variableName", &self.variable_name)?;
+        out.end_object()
     }
 }
 
@@ -257,14 +279,21 @@ impl InlineValueEvaluatableExpression {
 
 impl ToJson for InlineValueEvaluatableExpression {
     ghost stands = { λ it. object_of (
-        (codes "range", Some (⟦<Range as ToJson>⟧.stands it.range))
-        ∷ (codes "expression", option_map ⟦<String as ToJson>⟧.stands it.expression) ∷ []) };
+        (codes "expression", option_map ⟦<String as ToJson>⟧.stands it.expression)
+        ∷ (codes "range", Some (⟦<Range as ToJson>⟧.stands it.range)) ∷ []) };
 
     fn to_json(&self, alloc: Global) -> Result<Value, AllocError> {
         Object::new(alloc)
-            .member("range", &self.range)
             .some("expression", &self.expression)
+            .member("range", &self.range)
             .end()
+    }
+
+    fn write_json(&self, alloc: Global, out: &mut JsonWriter) -> Result<(), JsonWriteError> {
+        out.begin_object()?;
+        write_some(alloc, out, "expression", &self.expression)?;
+        write_member(alloc, out, "range", &self.range)?;
+        out.end_object()
     }
 }
 
@@ -316,6 +345,14 @@ impl ToJson for InlineValue {
             InlineValue::Text(it) => it.to_json(alloc),
             InlineValue::Lookup(it) => it.to_json(alloc),
             InlineValue::Expression(it) => it.to_json(alloc),
+        }
+    }
+
+    fn write_json(&self, alloc: Global, out: &mut JsonWriter) -> Result<(), JsonWriteError> {
+        match self {
+            InlineValue::Text(it) => it.write_json(alloc, out),
+            InlineValue::Lookup(it) => it.write_json(alloc, out),
+            InlineValue::Expression(it) => it.write_json(alloc, out),
         }
     }
 }

@@ -6,9 +6,11 @@ ghost use Rattle.serde_json.specs.View.{view};
 ghost use Rattle.lsp_types.specs.Json.{object_of, object_with};
 ghost use Rattle.lsp_types.specs.Reads.{Beside, IfFits, IsObject, IsWithin, Optional, Required, ◌and◌};
 
-use lsp_json::JsonRef;
+use lsp_json::{JsonRef, JsonWriteError, JsonWriter};
 use lsp_text::{Position, Range};
-use lsp_types::json::{FromJson, Members, Misfit, Object, ToJson, number_within};
+use lsp_types::json::{
+    FromJson, Members, Misfit, Object, ToJson, number_within, write_member, write_some,
+};
 use lsp_types::{
     Command, DefinitionParams, DocumentSymbolParams, HoverParams, ProgressToken,
     TextDocumentIdentifier,
@@ -41,14 +43,21 @@ impl DocumentHighlight {
 
 impl ToJson for DocumentHighlight {
     ghost stands = { λ it. object_of (
-        (codes "range", Some (⟦<Range as ToJson>⟧.stands it.range))
-        ∷ (codes "kind", option_map ⟦<DocumentHighlightKind as ToJson>⟧.stands it.kind) ∷ []) };
+        (codes "kind", option_map ⟦<DocumentHighlightKind as ToJson>⟧.stands it.kind)
+        ∷ (codes "range", Some (⟦<Range as ToJson>⟧.stands it.range)) ∷ []) };
 
     fn to_json(&self, alloc: Global) -> Result<Value, AllocError> {
         Object::new(alloc)
-            .member("range", &self.range)
             .some("kind", &self.kind)
+            .member("range", &self.range)
             .end()
+    }
+
+    fn write_json(&self, alloc: Global, out: &mut JsonWriter) -> Result<(), JsonWriteError> {
+        out.begin_object()?;
+        write_some(alloc, out, "kind", &self.kind)?;
+        write_member(alloc, out, "range", &self.range)?;
+        out.end_object()
     }
 }
 
@@ -90,6 +99,10 @@ impl ToJson for DocumentHighlightKind {
 
     fn to_json(&self, alloc: Global) -> Result<Value, AllocError> {
         self.0.to_json(alloc)
+    }
+
+    fn write_json(&self, alloc: Global, out: &mut JsonWriter) -> Result<(), JsonWriteError> {
+        self.0.write_json(alloc, out)
     }
 }
 
@@ -156,22 +169,33 @@ impl FoldingRange {
 
 impl ToJson for FoldingRange {
     ghost stands = { λ it. object_of (
-        (codes "startLine", Some (⟦<u32 as ToJson>⟧.stands it.start_line))
-        ∷ (codes "startCharacter", option_map ⟦<u32 as ToJson>⟧.stands it.start_character)
-        ∷ (codes "endLine", Some (⟦<u32 as ToJson>⟧.stands it.end_line))
+        (codes "collapsedText", option_map ⟦<String as ToJson>⟧.stands it.collapsed_text)
         ∷ (codes "endCharacter", option_map ⟦<u32 as ToJson>⟧.stands it.end_character)
+        ∷ (codes "endLine", Some (⟦<u32 as ToJson>⟧.stands it.end_line))
         ∷ (codes "kind", option_map ⟦<String as ToJson>⟧.stands it.kind)
-        ∷ (codes "collapsedText", option_map ⟦<String as ToJson>⟧.stands it.collapsed_text) ∷ []) };
+        ∷ (codes "startCharacter", option_map ⟦<u32 as ToJson>⟧.stands it.start_character)
+        ∷ (codes "startLine", Some (⟦<u32 as ToJson>⟧.stands it.start_line)) ∷ []) };
 
     fn to_json(&self, alloc: Global) -> Result<Value, AllocError> {
         Object::new(alloc)
-            .member("startLine", &self.start_line)
-            .some("startCharacter", &self.start_character)
-            .member("endLine", &self.end_line)
-            .some("endCharacter", &self.end_character)
-            .some("kind", &self.kind)
             .some("collapsedText", &self.collapsed_text)
+            .some("endCharacter", &self.end_character)
+            .member("endLine", &self.end_line)
+            .some("kind", &self.kind)
+            .some("startCharacter", &self.start_character)
+            .member("startLine", &self.start_line)
             .end()
+    }
+
+    fn write_json(&self, alloc: Global, out: &mut JsonWriter) -> Result<(), JsonWriteError> {
+        out.begin_object()?;
+        write_some(alloc, out, "collapsedText", &self.collapsed_text)?;
+        write_some(alloc, out, "endCharacter", &self.end_character)?;
+        write_member(alloc, out, "endLine", &self.end_line)?;
+        write_some(alloc, out, "kind", &self.kind)?;
+        write_some(alloc, out, "startCharacter", &self.start_character)?;
+        write_member(alloc, out, "startLine", &self.start_line)?;
+        out.end_object()
     }
 }
 
@@ -232,17 +256,17 @@ pub struct SelectionRangeParams {
 
 impl ToJson for SelectionRangeParams {
     ghost stands = { λ it. object_of (
-        (codes "textDocument", Some (⟦<TextDocumentIdentifier as ToJson>⟧.stands it.text_document))
+        (codes "partialResultToken", option_map ⟦<ProgressToken as ToJson>⟧.stands it.partial_result_token)
         ∷ (codes "positions", Some (⟦<Vec<Position> as ToJson>⟧.stands it.positions))
-        ∷ (codes "workDoneToken", option_map ⟦<ProgressToken as ToJson>⟧.stands it.work_done_token)
-        ∷ (codes "partialResultToken", option_map ⟦<ProgressToken as ToJson>⟧.stands it.partial_result_token) ∷ []) };
+        ∷ (codes "textDocument", Some (⟦<TextDocumentIdentifier as ToJson>⟧.stands it.text_document))
+        ∷ (codes "workDoneToken", option_map ⟦<ProgressToken as ToJson>⟧.stands it.work_done_token) ∷ []) };
 
     fn to_json(&self, alloc: Global) -> Result<Value, AllocError> {
         Object::new(alloc)
-            .member("textDocument", &self.text_document)
-            .member("positions", &self.positions)
-            .some("workDoneToken", &self.work_done_token)
             .some("partialResultToken", &self.partial_result_token)
+            .member("positions", &self.positions)
+            .member("textDocument", &self.text_document)
+            .some("workDoneToken", &self.work_done_token)
             .end()
     }
 }
@@ -330,6 +354,13 @@ impl ToJson for LinkedEditingRanges {
             .some("wordPattern", &self.word_pattern)
             .end()
     }
+
+    fn write_json(&self, alloc: Global, out: &mut JsonWriter) -> Result<(), JsonWriteError> {
+        out.begin_object()?;
+        write_member(alloc, out, "ranges", &self.ranges)?;
+        write_some(alloc, out, "wordPattern", &self.word_pattern)?;
+        out.end_object()
+    }
 }
 
 impl FromJson for LinkedEditingRanges {
@@ -394,18 +425,27 @@ impl Moniker {
 
 impl ToJson for Moniker {
     ghost stands = { λ it. object_of (
-        (codes "scheme", Some (⟦<String as ToJson>⟧.stands it.scheme))
-        ∷ (codes "identifier", Some (⟦<String as ToJson>⟧.stands it.identifier))
-        ∷ (codes "unique", Some (⟦<String as ToJson>⟧.stands it.unique))
-        ∷ (codes "kind", option_map ⟦<String as ToJson>⟧.stands it.kind) ∷ []) };
+        (codes "identifier", Some (⟦<String as ToJson>⟧.stands it.identifier))
+        ∷ (codes "kind", option_map ⟦<String as ToJson>⟧.stands it.kind)
+        ∷ (codes "scheme", Some (⟦<String as ToJson>⟧.stands it.scheme))
+        ∷ (codes "unique", Some (⟦<String as ToJson>⟧.stands it.unique)) ∷ []) };
 
     fn to_json(&self, alloc: Global) -> Result<Value, AllocError> {
         Object::new(alloc)
-            .member("scheme", &self.scheme)
             .member("identifier", &self.identifier)
-            .member("unique", &self.unique)
             .some("kind", &self.kind)
+            .member("scheme", &self.scheme)
+            .member("unique", &self.unique)
             .end()
+    }
+
+    fn write_json(&self, alloc: Global, out: &mut JsonWriter) -> Result<(), JsonWriteError> {
+        out.begin_object()?;
+        write_member(alloc, out, "identifier", &self.identifier)?;
+        write_some(alloc, out, "kind", &self.kind)?;
+        write_member(alloc, out, "scheme", &self.scheme)?;
+        write_member(alloc, out, "unique", &self.unique)?;
+        out.end_object()
     }
 }
 
@@ -480,17 +520,29 @@ impl CodeLens {
 
 impl ToJson for CodeLens {
     ghost stands = { λ it. object_with (
-        (codes "range", Some (⟦<Range as ToJson>⟧.stands it.range))
-        ∷ (codes "command", option_map ⟦<Command as ToJson>⟧.stands it.command)
-        ∷ (codes "data", option_map ⟦<Value as ToJson>⟧.stands it.«data») ∷ []) (option_map view it.more) };
+        (codes "command", option_map ⟦<Command as ToJson>⟧.stands it.command)
+        ∷ (codes "data", option_map ⟦<Value as ToJson>⟧.stands it.«data»)
+        ∷ (codes "range", Some (⟦<Range as ToJson>⟧.stands it.range)) ∷ []) (option_map view it.more) };
 
     fn to_json(&self, alloc: Global) -> Result<Value, AllocError> {
         Object::new(alloc)
-            .member("range", &self.range)
             .some("command", &self.command)
             .some("data", &self.data)
+            .member("range", &self.range)
             .rest(&self.more)
             .end()
+    }
+
+    fn write_json(&self, alloc: Global, out: &mut JsonWriter) -> Result<(), JsonWriteError> {
+        if self.more.is_some() {
+            let tree = self.to_json(alloc)?;
+            return out.value(&tree);
+        }
+        out.begin_object()?;
+        write_some(alloc, out, "command", &self.command)?;
+        write_some(alloc, out, "data", &self.data)?;
+        write_member(alloc, out, "range", &self.range)?;
+        out.end_object()
     }
 }
 
@@ -570,19 +622,32 @@ impl DocumentLink {
 
 impl ToJson for DocumentLink {
     ghost stands = { λ it. object_with (
-        (codes "range", Some (⟦<Range as ToJson>⟧.stands it.range))
+        (codes "data", option_map ⟦<Value as ToJson>⟧.stands it.«data»)
+        ∷ (codes "range", Some (⟦<Range as ToJson>⟧.stands it.range))
         ∷ (codes "target", option_map ⟦<String as ToJson>⟧.stands it.target)
-        ∷ (codes "tooltip", option_map ⟦<String as ToJson>⟧.stands it.tooltip)
-        ∷ (codes "data", option_map ⟦<Value as ToJson>⟧.stands it.«data») ∷ []) (option_map view it.more) };
+        ∷ (codes "tooltip", option_map ⟦<String as ToJson>⟧.stands it.tooltip) ∷ []) (option_map view it.more) };
 
     fn to_json(&self, alloc: Global) -> Result<Value, AllocError> {
         Object::new(alloc)
+            .some("data", &self.data)
             .member("range", &self.range)
             .some("target", &self.target)
             .some("tooltip", &self.tooltip)
-            .some("data", &self.data)
             .rest(&self.more)
             .end()
+    }
+
+    fn write_json(&self, alloc: Global, out: &mut JsonWriter) -> Result<(), JsonWriteError> {
+        if self.more.is_some() {
+            let tree = self.to_json(alloc)?;
+            return out.value(&tree);
+        }
+        out.begin_object()?;
+        write_some(alloc, out, "data", &self.data)?;
+        write_member(alloc, out, "range", &self.range)?;
+        write_some(alloc, out, "target", &self.target)?;
+        write_some(alloc, out, "tooltip", &self.tooltip)?;
+        out.end_object()
     }
 }
 

@@ -5,8 +5,10 @@ ghost use Rattle.serde_json.specs.Data.{string};
 ghost use Rattle.lsp_types.specs.Json.{object_of};
 ghost use Rattle.lsp_types.specs.Reads.{IfFits, IsObject, Named, NoneReads, Optional, Required, ◌and◌};
 
-use lsp_json::JsonRef;
-use lsp_types::json::{FromJson, Members, Misfit, Object, ToJson, fitting};
+use lsp_json::{JsonRef, JsonWriteError, JsonWriter};
+use lsp_types::json::{
+    FromJson, Members, Misfit, Object, ToJson, fitting, write_member, write_some, write_text,
+};
 use lsp_types::{Diagnostic, ProgressToken, TextDocumentIdentifier};
 use serde_json::Value;
 use std::alloc::{AllocError, Global};
@@ -31,19 +33,19 @@ pub struct DocumentDiagnosticParams {
 
 impl ToJson for DocumentDiagnosticParams {
     ghost stands = { λ it. object_of (
-        (codes "textDocument", Some (⟦<TextDocumentIdentifier as ToJson>⟧.stands it.text_document))
-        ∷ (codes "identifier", option_map ⟦<String as ToJson>⟧.stands it.identifier)
+        (codes "identifier", option_map ⟦<String as ToJson>⟧.stands it.identifier)
+        ∷ (codes "partialResultToken", option_map ⟦<ProgressToken as ToJson>⟧.stands it.partial_result_token)
         ∷ (codes "previousResultId", option_map ⟦<String as ToJson>⟧.stands it.previous_result_id)
-        ∷ (codes "workDoneToken", option_map ⟦<ProgressToken as ToJson>⟧.stands it.work_done_token)
-        ∷ (codes "partialResultToken", option_map ⟦<ProgressToken as ToJson>⟧.stands it.partial_result_token) ∷ []) };
+        ∷ (codes "textDocument", Some (⟦<TextDocumentIdentifier as ToJson>⟧.stands it.text_document))
+        ∷ (codes "workDoneToken", option_map ⟦<ProgressToken as ToJson>⟧.stands it.work_done_token) ∷ []) };
 
     fn to_json(&self, alloc: Global) -> Result<Value, AllocError> {
         Object::new(alloc)
-            .member("textDocument", &self.text_document)
             .some("identifier", &self.identifier)
-            .some("previousResultId", &self.previous_result_id)
-            .some("workDoneToken", &self.work_done_token)
             .some("partialResultToken", &self.partial_result_token)
+            .some("previousResultId", &self.previous_result_id)
+            .member("textDocument", &self.text_document)
+            .some("workDoneToken", &self.work_done_token)
             .end()
     }
 }
@@ -112,16 +114,24 @@ impl FullDocumentDiagnosticReport {
 
 impl ToJson for FullDocumentDiagnosticReport {
     ghost stands = { λ it. object_of (
-        (codes "kind", Some (string (codes "full")))
-        ∷ (codes "resultId", option_map ⟦<String as ToJson>⟧.stands it.result_id)
-        ∷ (codes "items", Some (⟦<Vec<Diagnostic> as ToJson>⟧.stands it.items)) ∷ []) };
+        (codes "items", Some (⟦<Vec<Diagnostic> as ToJson>⟧.stands it.items))
+        ∷ (codes "kind", Some (string (codes "full")))
+        ∷ (codes "resultId", option_map ⟦<String as ToJson>⟧.stands it.result_id) ∷ []) };
 
     fn to_json(&self, alloc: Global) -> Result<Value, AllocError> {
         Object::new(alloc)
+            .member("items", &self.items)
             .text("kind", "full")
             .some("resultId", &self.result_id)
-            .member("items", &self.items)
             .end()
+    }
+
+    fn write_json(&self, alloc: Global, out: &mut JsonWriter) -> Result<(), JsonWriteError> {
+        out.begin_object()?;
+        write_member(alloc, out, "items", &self.items)?;
+        write_text(out, "kind", "full")?;
+        write_some(alloc, out, "resultId", &self.result_id)?;
+        out.end_object()
     }
 }
 
@@ -167,6 +177,13 @@ impl ToJson for UnchangedDocumentDiagnosticReport {
             .text("kind", "unchanged")
             .member("resultId", &self.result_id)
             .end()
+    }
+
+    fn write_json(&self, alloc: Global, out: &mut JsonWriter) -> Result<(), JsonWriteError> {
+        out.begin_object()?;
+        write_text(out, "kind", "unchanged")?;
+        write_member(alloc, out, "resultId", &self.result_id)?;
+        out.end_object()
     }
 }
 
@@ -214,6 +231,13 @@ impl ToJson for RelatedReport {
         match self {
             RelatedReport::Full(it) => it.to_json(alloc),
             RelatedReport::Unchanged(it) => it.to_json(alloc),
+        }
+    }
+
+    fn write_json(&self, alloc: Global, out: &mut JsonWriter) -> Result<(), JsonWriteError> {
+        match self {
+            RelatedReport::Full(it) => it.write_json(alloc, out),
+            RelatedReport::Unchanged(it) => it.write_json(alloc, out),
         }
     }
 }
@@ -270,18 +294,27 @@ impl RelatedFullDocumentDiagnosticReport {
 
 impl ToJson for RelatedFullDocumentDiagnosticReport {
     ghost stands = { λ it. object_of (
-        (codes "kind", Some (string (codes "full")))
-        ∷ (codes "resultId", option_map ⟦<String as ToJson>⟧.stands it.result_id)
-        ∷ (codes "items", Some (⟦<Vec<Diagnostic> as ToJson>⟧.stands it.items))
-        ∷ (codes "relatedDocuments", option_map ⟦<BTreeMap<String, RelatedReport> as ToJson>⟧.stands it.related_documents) ∷ []) };
+        (codes "items", Some (⟦<Vec<Diagnostic> as ToJson>⟧.stands it.items))
+        ∷ (codes "kind", Some (string (codes "full")))
+        ∷ (codes "relatedDocuments", option_map ⟦<BTreeMap<String, RelatedReport> as ToJson>⟧.stands it.related_documents)
+        ∷ (codes "resultId", option_map ⟦<String as ToJson>⟧.stands it.result_id) ∷ []) };
 
     fn to_json(&self, alloc: Global) -> Result<Value, AllocError> {
         Object::new(alloc)
-            .text("kind", "full")
-            .some("resultId", &self.result_id)
             .member("items", &self.items)
+            .text("kind", "full")
             .some("relatedDocuments", &self.related_documents)
+            .some("resultId", &self.result_id)
             .end()
+    }
+
+    fn write_json(&self, alloc: Global, out: &mut JsonWriter) -> Result<(), JsonWriteError> {
+        out.begin_object()?;
+        write_member(alloc, out, "items", &self.items)?;
+        write_text(out, "kind", "full")?;
+        write_some(alloc, out, "relatedDocuments", &self.related_documents)?;
+        write_some(alloc, out, "resultId", &self.result_id)?;
+        out.end_object()
     }
 }
 
@@ -346,15 +379,23 @@ impl RelatedUnchangedDocumentDiagnosticReport {
 impl ToJson for RelatedUnchangedDocumentDiagnosticReport {
     ghost stands = { λ it. object_of (
         (codes "kind", Some (string (codes "unchanged")))
-        ∷ (codes "resultId", Some (⟦<String as ToJson>⟧.stands it.result_id))
-        ∷ (codes "relatedDocuments", option_map ⟦<BTreeMap<String, RelatedReport> as ToJson>⟧.stands it.related_documents) ∷ []) };
+        ∷ (codes "relatedDocuments", option_map ⟦<BTreeMap<String, RelatedReport> as ToJson>⟧.stands it.related_documents)
+        ∷ (codes "resultId", Some (⟦<String as ToJson>⟧.stands it.result_id)) ∷ []) };
 
     fn to_json(&self, alloc: Global) -> Result<Value, AllocError> {
         Object::new(alloc)
             .text("kind", "unchanged")
-            .member("resultId", &self.result_id)
             .some("relatedDocuments", &self.related_documents)
+            .member("resultId", &self.result_id)
             .end()
+    }
+
+    fn write_json(&self, alloc: Global, out: &mut JsonWriter) -> Result<(), JsonWriteError> {
+        out.begin_object()?;
+        write_text(out, "kind", "unchanged")?;
+        write_some(alloc, out, "relatedDocuments", &self.related_documents)?;
+        write_member(alloc, out, "resultId", &self.result_id)?;
+        out.end_object()
     }
 }
 
@@ -407,6 +448,13 @@ impl ToJson for DocumentDiagnosticReport {
         match self {
             DocumentDiagnosticReport::Full(it) => it.to_json(alloc),
             DocumentDiagnosticReport::Unchanged(it) => it.to_json(alloc),
+        }
+    }
+
+    fn write_json(&self, alloc: Global, out: &mut JsonWriter) -> Result<(), JsonWriteError> {
+        match self {
+            DocumentDiagnosticReport::Full(it) => it.write_json(alloc, out),
+            DocumentDiagnosticReport::Unchanged(it) => it.write_json(alloc, out),
         }
     }
 }
@@ -490,16 +538,16 @@ pub struct WorkspaceDiagnosticParams {
 impl ToJson for WorkspaceDiagnosticParams {
     ghost stands = { λ it. object_of (
         (codes "identifier", option_map ⟦<String as ToJson>⟧.stands it.identifier)
+        ∷ (codes "partialResultToken", option_map ⟦<ProgressToken as ToJson>⟧.stands it.partial_result_token)
         ∷ (codes "previousResultIds", Some (⟦<Vec<PreviousResultId> as ToJson>⟧.stands it.previous_result_ids))
-        ∷ (codes "workDoneToken", option_map ⟦<ProgressToken as ToJson>⟧.stands it.work_done_token)
-        ∷ (codes "partialResultToken", option_map ⟦<ProgressToken as ToJson>⟧.stands it.partial_result_token) ∷ []) };
+        ∷ (codes "workDoneToken", option_map ⟦<ProgressToken as ToJson>⟧.stands it.work_done_token) ∷ []) };
 
     fn to_json(&self, alloc: Global) -> Result<Value, AllocError> {
         Object::new(alloc)
             .some("identifier", &self.identifier)
+            .some("partialResultToken", &self.partial_result_token)
             .member("previousResultIds", &self.previous_result_ids)
             .some("workDoneToken", &self.work_done_token)
-            .some("partialResultToken", &self.partial_result_token)
             .end()
     }
 }
@@ -572,20 +620,30 @@ impl WorkspaceFullDocumentDiagnosticReport {
 
 impl ToJson for WorkspaceFullDocumentDiagnosticReport {
     ghost stands = { λ it. object_of (
-        (codes "kind", Some (string (codes "full")))
+        (codes "items", Some (⟦<Vec<Diagnostic> as ToJson>⟧.stands it.items))
+        ∷ (codes "kind", Some (string (codes "full")))
         ∷ (codes "resultId", option_map ⟦<String as ToJson>⟧.stands it.result_id)
-        ∷ (codes "items", Some (⟦<Vec<Diagnostic> as ToJson>⟧.stands it.items))
         ∷ (codes "uri", Some (⟦<String as ToJson>⟧.stands it.uri))
         ∷ (codes "version", Some (⟦<Option<i32> as ToJson>⟧.stands it.version)) ∷ []) };
 
     fn to_json(&self, alloc: Global) -> Result<Value, AllocError> {
         Object::new(alloc)
+            .member("items", &self.items)
             .text("kind", "full")
             .some("resultId", &self.result_id)
-            .member("items", &self.items)
             .member("uri", &self.uri)
             .member("version", &self.version)
             .end()
+    }
+
+    fn write_json(&self, alloc: Global, out: &mut JsonWriter) -> Result<(), JsonWriteError> {
+        out.begin_object()?;
+        write_member(alloc, out, "items", &self.items)?;
+        write_text(out, "kind", "full")?;
+        write_some(alloc, out, "resultId", &self.result_id)?;
+        write_member(alloc, out, "uri", &self.uri)?;
+        write_member(alloc, out, "version", &self.version)?;
+        out.end_object()
     }
 }
 
@@ -668,6 +726,15 @@ impl ToJson for WorkspaceUnchangedDocumentDiagnosticReport {
             .member("version", &self.version)
             .end()
     }
+
+    fn write_json(&self, alloc: Global, out: &mut JsonWriter) -> Result<(), JsonWriteError> {
+        out.begin_object()?;
+        write_text(out, "kind", "unchanged")?;
+        write_member(alloc, out, "resultId", &self.result_id)?;
+        write_member(alloc, out, "uri", &self.uri)?;
+        write_member(alloc, out, "version", &self.version)?;
+        out.end_object()
+    }
 }
 
 impl FromJson for WorkspaceUnchangedDocumentDiagnosticReport {
@@ -724,6 +791,13 @@ impl ToJson for WorkspaceDocumentDiagnosticReport {
             WorkspaceDocumentDiagnosticReport::Unchanged(it) => it.to_json(alloc),
         }
     }
+
+    fn write_json(&self, alloc: Global, out: &mut JsonWriter) -> Result<(), JsonWriteError> {
+        match self {
+            WorkspaceDocumentDiagnosticReport::Full(it) => it.write_json(alloc, out),
+            WorkspaceDocumentDiagnosticReport::Unchanged(it) => it.write_json(alloc, out),
+        }
+    }
 }
 
 impl FromJson for WorkspaceDocumentDiagnosticReport {
@@ -761,6 +835,12 @@ impl ToJson for WorkspaceDiagnosticReport {
 
     fn to_json(&self, alloc: Global) -> Result<Value, AllocError> {
         Object::new(alloc).member("items", &self.items).end()
+    }
+
+    fn write_json(&self, alloc: Global, out: &mut JsonWriter) -> Result<(), JsonWriteError> {
+        out.begin_object()?;
+        write_member(alloc, out, "items", &self.items)?;
+        out.end_object()
     }
 }
 

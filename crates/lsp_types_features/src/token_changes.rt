@@ -4,8 +4,10 @@ ghost use Rattle.std.specs.Prelude.{◌∷◌, [], Some, codes, option_map};
 ghost use Rattle.lsp_types.specs.Json.{object_of};
 ghost use Rattle.lsp_types.specs.Reads.{IfFits, IsObject, NoneReads, Optional, Required, ◌and◌};
 
-use lsp_json::JsonRef;
-use lsp_types::json::{FromJson, Members, Misfit, Object, ToJson, fitting};
+use lsp_json::{JsonRef, JsonWriteError, JsonWriter};
+use lsp_types::json::{
+    FromJson, Members, Misfit, Object, ToJson, fitting, write_member, write_some,
+};
 use lsp_types::{ProgressToken, SemanticTokens, TextDocumentIdentifier};
 use serde_json::Value;
 use std::alloc::{AllocError, Global};
@@ -26,17 +28,17 @@ pub struct SemanticTokensDeltaParams {
 
 impl ToJson for SemanticTokensDeltaParams {
     ghost stands = { λ it. object_of (
-        (codes "textDocument", Some (⟦<TextDocumentIdentifier as ToJson>⟧.stands it.text_document))
+        (codes "partialResultToken", option_map ⟦<ProgressToken as ToJson>⟧.stands it.partial_result_token)
         ∷ (codes "previousResultId", Some (⟦<String as ToJson>⟧.stands it.previous_result_id))
-        ∷ (codes "workDoneToken", option_map ⟦<ProgressToken as ToJson>⟧.stands it.work_done_token)
-        ∷ (codes "partialResultToken", option_map ⟦<ProgressToken as ToJson>⟧.stands it.partial_result_token) ∷ []) };
+        ∷ (codes "textDocument", Some (⟦<TextDocumentIdentifier as ToJson>⟧.stands it.text_document))
+        ∷ (codes "workDoneToken", option_map ⟦<ProgressToken as ToJson>⟧.stands it.work_done_token) ∷ []) };
 
     fn to_json(&self, alloc: Global) -> Result<Value, AllocError> {
         Object::new(alloc)
-            .member("textDocument", &self.text_document)
-            .member("previousResultId", &self.previous_result_id)
-            .some("workDoneToken", &self.work_done_token)
             .some("partialResultToken", &self.partial_result_token)
+            .member("previousResultId", &self.previous_result_id)
+            .member("textDocument", &self.text_document)
+            .some("workDoneToken", &self.work_done_token)
             .end()
     }
 }
@@ -105,16 +107,24 @@ impl SemanticTokensEdit {
 
 impl ToJson for SemanticTokensEdit {
     ghost stands = { λ it. object_of (
-        (codes "start", Some (⟦<u32 as ToJson>⟧.stands it.start))
+        (codes "data", option_map ⟦<Vec<u32> as ToJson>⟧.stands it.«data»)
         ∷ (codes "deleteCount", Some (⟦<u32 as ToJson>⟧.stands it.delete_count))
-        ∷ (codes "data", option_map ⟦<Vec<u32> as ToJson>⟧.stands it.«data») ∷ []) };
+        ∷ (codes "start", Some (⟦<u32 as ToJson>⟧.stands it.start)) ∷ []) };
 
     fn to_json(&self, alloc: Global) -> Result<Value, AllocError> {
         Object::new(alloc)
-            .member("start", &self.start)
-            .member("deleteCount", &self.delete_count)
             .some("data", &self.data)
+            .member("deleteCount", &self.delete_count)
+            .member("start", &self.start)
             .end()
+    }
+
+    fn write_json(&self, alloc: Global, out: &mut JsonWriter) -> Result<(), JsonWriteError> {
+        out.begin_object()?;
+        write_some(alloc, out, "data", &self.data)?;
+        write_member(alloc, out, "deleteCount", &self.delete_count)?;
+        write_member(alloc, out, "start", &self.start)?;
+        out.end_object()
     }
 }
 
@@ -172,14 +182,21 @@ impl SemanticTokensDelta {
 
 impl ToJson for SemanticTokensDelta {
     ghost stands = { λ it. object_of (
-        (codes "resultId", option_map ⟦<String as ToJson>⟧.stands it.result_id)
-        ∷ (codes "edits", Some (⟦<Vec<SemanticTokensEdit> as ToJson>⟧.stands it.edits)) ∷ []) };
+        (codes "edits", Some (⟦<Vec<SemanticTokensEdit> as ToJson>⟧.stands it.edits))
+        ∷ (codes "resultId", option_map ⟦<String as ToJson>⟧.stands it.result_id) ∷ []) };
 
     fn to_json(&self, alloc: Global) -> Result<Value, AllocError> {
         Object::new(alloc)
-            .some("resultId", &self.result_id)
             .member("edits", &self.edits)
+            .some("resultId", &self.result_id)
             .end()
+    }
+
+    fn write_json(&self, alloc: Global, out: &mut JsonWriter) -> Result<(), JsonWriteError> {
+        out.begin_object()?;
+        write_member(alloc, out, "edits", &self.edits)?;
+        write_some(alloc, out, "resultId", &self.result_id)?;
+        out.end_object()
     }
 }
 
@@ -224,6 +241,13 @@ impl ToJson for SemanticTokensDeltaResult {
         match self {
             SemanticTokensDeltaResult::Delta(it) => it.to_json(alloc),
             SemanticTokensDeltaResult::Tokens(it) => it.to_json(alloc),
+        }
+    }
+
+    fn write_json(&self, alloc: Global, out: &mut JsonWriter) -> Result<(), JsonWriteError> {
+        match self {
+            SemanticTokensDeltaResult::Delta(it) => it.write_json(alloc, out),
+            SemanticTokensDeltaResult::Tokens(it) => it.write_json(alloc, out),
         }
     }
 }

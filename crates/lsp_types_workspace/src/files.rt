@@ -91,13 +91,13 @@ pub struct FileRename {
 
 impl ToJson for FileRename {
     ghost stands = { λ it. object_of (
-        (codes "oldUri", Some (⟦<String as ToJson>⟧.stands it.old_uri))
-        ∷ (codes "newUri", Some (⟦<String as ToJson>⟧.stands it.new_uri)) ∷ []) };
+        (codes "newUri", Some (⟦<String as ToJson>⟧.stands it.new_uri))
+        ∷ (codes "oldUri", Some (⟦<String as ToJson>⟧.stands it.old_uri)) ∷ []) };
 
     fn to_json(&self, alloc: Global) -> Result<Value, AllocError> {
         Object::new(alloc)
-            .member("oldUri", &self.old_uri)
             .member("newUri", &self.new_uri)
+            .member("oldUri", &self.old_uri)
             .end()
     }
 }
@@ -302,13 +302,13 @@ impl FileOperationFilter {
 
 impl ToJson for FileOperationFilter {
     ghost stands = { λ it. object_of (
-        (codes "scheme", option_map ⟦<String as ToJson>⟧.stands it.scheme)
-        ∷ (codes "pattern", Some (⟦<FileOperationPattern as ToJson>⟧.stands it.pattern)) ∷ []) };
+        (codes "pattern", Some (⟦<FileOperationPattern as ToJson>⟧.stands it.pattern))
+        ∷ (codes "scheme", option_map ⟦<String as ToJson>⟧.stands it.scheme) ∷ []) };
 
     fn to_json(&self, alloc: Global) -> Result<Value, AllocError> {
         Object::new(alloc)
-            .some("scheme", &self.scheme)
             .member("pattern", &self.pattern)
+            .some("scheme", &self.scheme)
             .end()
     }
 }
@@ -413,20 +413,20 @@ impl Default for FileOperationOptions {
 impl ToJson for FileOperationOptions {
     ghost stands = { λ it. object_of (
         (codes "didCreate", option_map ⟦<FileOperationRegistrationOptions as ToJson>⟧.stands it.did_create)
-        ∷ (codes "willCreate", option_map ⟦<FileOperationRegistrationOptions as ToJson>⟧.stands it.will_create)
-        ∷ (codes "didRename", option_map ⟦<FileOperationRegistrationOptions as ToJson>⟧.stands it.did_rename)
-        ∷ (codes "willRename", option_map ⟦<FileOperationRegistrationOptions as ToJson>⟧.stands it.will_rename)
         ∷ (codes "didDelete", option_map ⟦<FileOperationRegistrationOptions as ToJson>⟧.stands it.did_delete)
-        ∷ (codes "willDelete", option_map ⟦<FileOperationRegistrationOptions as ToJson>⟧.stands it.will_delete) ∷ []) };
+        ∷ (codes "didRename", option_map ⟦<FileOperationRegistrationOptions as ToJson>⟧.stands it.did_rename)
+        ∷ (codes "willCreate", option_map ⟦<FileOperationRegistrationOptions as ToJson>⟧.stands it.will_create)
+        ∷ (codes "willDelete", option_map ⟦<FileOperationRegistrationOptions as ToJson>⟧.stands it.will_delete)
+        ∷ (codes "willRename", option_map ⟦<FileOperationRegistrationOptions as ToJson>⟧.stands it.will_rename) ∷ []) };
 
     fn to_json(&self, alloc: Global) -> Result<Value, AllocError> {
         Object::new(alloc)
             .some("didCreate", &self.did_create)
-            .some("willCreate", &self.will_create)
-            .some("didRename", &self.did_rename)
-            .some("willRename", &self.will_rename)
             .some("didDelete", &self.did_delete)
+            .some("didRename", &self.did_rename)
+            .some("willCreate", &self.will_create)
             .some("willDelete", &self.will_delete)
+            .some("willRename", &self.will_rename)
             .end()
     }
 }

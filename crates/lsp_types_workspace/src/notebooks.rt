@@ -102,17 +102,17 @@ pub struct NotebookCell {
 
 impl ToJson for NotebookCell {
     ghost stands = { λ it. object_of (
-        (codes "kind", Some (⟦<NotebookCellKind as ToJson>⟧.stands it.kind))
-        ∷ (codes "document", Some (⟦<String as ToJson>⟧.stands it.document))
-        ∷ (codes "metadata", option_map ⟦<Value as ToJson>⟧.stands it.metadata)
-        ∷ (codes "executionSummary", option_map ⟦<ExecutionSummary as ToJson>⟧.stands it.execution_summary) ∷ []) };
+        (codes "document", Some (⟦<String as ToJson>⟧.stands it.document))
+        ∷ (codes "executionSummary", option_map ⟦<ExecutionSummary as ToJson>⟧.stands it.execution_summary)
+        ∷ (codes "kind", Some (⟦<NotebookCellKind as ToJson>⟧.stands it.kind))
+        ∷ (codes "metadata", option_map ⟦<Value as ToJson>⟧.stands it.metadata) ∷ []) };
 
     fn to_json(&self, alloc: Global) -> Result<Value, AllocError> {
         Object::new(alloc)
-            .member("kind", &self.kind)
             .member("document", &self.document)
-            .some("metadata", &self.metadata)
             .some("executionSummary", &self.execution_summary)
+            .member("kind", &self.kind)
+            .some("metadata", &self.metadata)
             .end()
     }
 }
@@ -163,19 +163,19 @@ pub struct NotebookDocument {
 
 impl ToJson for NotebookDocument {
     ghost stands = { λ it. object_of (
-        (codes "uri", Some (⟦<String as ToJson>⟧.stands it.uri))
-        ∷ (codes "notebookType", Some (⟦<String as ToJson>⟧.stands it.notebook_type))
-        ∷ (codes "version", Some (⟦<i32 as ToJson>⟧.stands it.version))
+        (codes "cells", Some (⟦<Vec<NotebookCell> as ToJson>⟧.stands it.cells))
         ∷ (codes "metadata", option_map ⟦<Value as ToJson>⟧.stands it.metadata)
-        ∷ (codes "cells", Some (⟦<Vec<NotebookCell> as ToJson>⟧.stands it.cells)) ∷ []) };
+        ∷ (codes "notebookType", Some (⟦<String as ToJson>⟧.stands it.notebook_type))
+        ∷ (codes "uri", Some (⟦<String as ToJson>⟧.stands it.uri))
+        ∷ (codes "version", Some (⟦<i32 as ToJson>⟧.stands it.version)) ∷ []) };
 
     fn to_json(&self, alloc: Global) -> Result<Value, AllocError> {
         Object::new(alloc)
-            .member("uri", &self.uri)
-            .member("notebookType", &self.notebook_type)
-            .member("version", &self.version)
-            .some("metadata", &self.metadata)
             .member("cells", &self.cells)
+            .some("metadata", &self.metadata)
+            .member("notebookType", &self.notebook_type)
+            .member("uri", &self.uri)
+            .member("version", &self.version)
             .end()
     }
 }
@@ -223,13 +223,13 @@ pub struct DidOpenNotebookDocumentParams {
 
 impl ToJson for DidOpenNotebookDocumentParams {
     ghost stands = { λ it. object_of (
-        (codes "notebookDocument", Some (⟦<NotebookDocument as ToJson>⟧.stands it.notebook_document))
-        ∷ (codes "cellTextDocuments", Some (⟦<Vec<TextDocumentItem> as ToJson>⟧.stands it.cell_text_documents)) ∷ []) };
+        (codes "cellTextDocuments", Some (⟦<Vec<TextDocumentItem> as ToJson>⟧.stands it.cell_text_documents))
+        ∷ (codes "notebookDocument", Some (⟦<NotebookDocument as ToJson>⟧.stands it.notebook_document)) ∷ []) };
 
     fn to_json(&self, alloc: Global) -> Result<Value, AllocError> {
         Object::new(alloc)
-            .member("notebookDocument", &self.notebook_document)
             .member("cellTextDocuments", &self.cell_text_documents)
+            .member("notebookDocument", &self.notebook_document)
             .end()
     }
 }
@@ -271,13 +271,13 @@ pub struct VersionedNotebookDocumentIdentifier {
 
 impl ToJson for VersionedNotebookDocumentIdentifier {
     ghost stands = { λ it. object_of (
-        (codes "version", Some (⟦<i32 as ToJson>⟧.stands it.version))
-        ∷ (codes "uri", Some (⟦<String as ToJson>⟧.stands it.uri)) ∷ []) };
+        (codes "uri", Some (⟦<String as ToJson>⟧.stands it.uri))
+        ∷ (codes "version", Some (⟦<i32 as ToJson>⟧.stands it.version)) ∷ []) };
 
     fn to_json(&self, alloc: Global) -> Result<Value, AllocError> {
         Object::new(alloc)
-            .member("version", &self.version)
             .member("uri", &self.uri)
+            .member("version", &self.version)
             .end()
     }
 }
@@ -318,15 +318,15 @@ pub struct NotebookCellArrayChange {
 
 impl ToJson for NotebookCellArrayChange {
     ghost stands = { λ it. object_of (
-        (codes "start", Some (⟦<u32 as ToJson>⟧.stands it.start))
+        (codes "cells", option_map ⟦<Vec<NotebookCell> as ToJson>⟧.stands it.cells)
         ∷ (codes "deleteCount", Some (⟦<u32 as ToJson>⟧.stands it.delete_count))
-        ∷ (codes "cells", option_map ⟦<Vec<NotebookCell> as ToJson>⟧.stands it.cells) ∷ []) };
+        ∷ (codes "start", Some (⟦<u32 as ToJson>⟧.stands it.start)) ∷ []) };
 
     fn to_json(&self, alloc: Global) -> Result<Value, AllocError> {
         Object::new(alloc)
-            .member("start", &self.start)
-            .member("deleteCount", &self.delete_count)
             .some("cells", &self.cells)
+            .member("deleteCount", &self.delete_count)
+            .member("start", &self.start)
             .end()
     }
 }
@@ -371,14 +371,14 @@ pub struct NotebookCellStructure {
 impl ToJson for NotebookCellStructure {
     ghost stands = { λ it. object_of (
         (codes "array", Some (⟦<NotebookCellArrayChange as ToJson>⟧.stands it.array))
-        ∷ (codes "didOpen", option_map ⟦<Vec<TextDocumentItem> as ToJson>⟧.stands it.did_open)
-        ∷ (codes "didClose", option_map ⟦<Vec<TextDocumentIdentifier> as ToJson>⟧.stands it.did_close) ∷ []) };
+        ∷ (codes "didClose", option_map ⟦<Vec<TextDocumentIdentifier> as ToJson>⟧.stands it.did_close)
+        ∷ (codes "didOpen", option_map ⟦<Vec<TextDocumentItem> as ToJson>⟧.stands it.did_open) ∷ []) };
 
     fn to_json(&self, alloc: Global) -> Result<Value, AllocError> {
         Object::new(alloc)
             .member("array", &self.array)
-            .some("didOpen", &self.did_open)
             .some("didClose", &self.did_close)
+            .some("didOpen", &self.did_open)
             .end()
     }
 }
@@ -420,13 +420,13 @@ pub struct NotebookCellTextChange {
 
 impl ToJson for NotebookCellTextChange {
     ghost stands = { λ it. object_of (
-        (codes "document", Some (⟦<VersionedTextDocumentIdentifier as ToJson>⟧.stands it.document))
-        ∷ (codes "changes", Some (⟦<Vec<ContentChange> as ToJson>⟧.stands it.changes)) ∷ []) };
+        (codes "changes", Some (⟦<Vec<ContentChange> as ToJson>⟧.stands it.changes))
+        ∷ (codes "document", Some (⟦<VersionedTextDocumentIdentifier as ToJson>⟧.stands it.document)) ∷ []) };
 
     fn to_json(&self, alloc: Global) -> Result<Value, AllocError> {
         Object::new(alloc)
-            .member("document", &self.document)
             .member("changes", &self.changes)
+            .member("document", &self.document)
             .end()
     }
 }
@@ -464,14 +464,14 @@ pub struct NotebookCellChanges {
 
 impl ToJson for NotebookCellChanges {
     ghost stands = { λ it. object_of (
-        (codes "structure", option_map ⟦<NotebookCellStructure as ToJson>⟧.stands it.structure)
-        ∷ (codes "data", option_map ⟦<Vec<NotebookCell> as ToJson>⟧.stands it.«data»)
+        (codes "data", option_map ⟦<Vec<NotebookCell> as ToJson>⟧.stands it.«data»)
+        ∷ (codes "structure", option_map ⟦<NotebookCellStructure as ToJson>⟧.stands it.structure)
         ∷ (codes "textContent", option_map ⟦<Vec<NotebookCellTextChange> as ToJson>⟧.stands it.text_content) ∷ []) };
 
     fn to_json(&self, alloc: Global) -> Result<Value, AllocError> {
         Object::new(alloc)
-            .some("structure", &self.structure)
             .some("data", &self.data)
+            .some("structure", &self.structure)
             .some("textContent", &self.text_content)
             .end()
     }
@@ -514,13 +514,13 @@ pub struct NotebookDocumentChangeEvent {
 
 impl ToJson for NotebookDocumentChangeEvent {
     ghost stands = { λ it. object_of (
-        (codes "metadata", option_map ⟦<Value as ToJson>⟧.stands it.metadata)
-        ∷ (codes "cells", option_map ⟦<NotebookCellChanges as ToJson>⟧.stands it.cells) ∷ []) };
+        (codes "cells", option_map ⟦<NotebookCellChanges as ToJson>⟧.stands it.cells)
+        ∷ (codes "metadata", option_map ⟦<Value as ToJson>⟧.stands it.metadata) ∷ []) };
 
     fn to_json(&self, alloc: Global) -> Result<Value, AllocError> {
         Object::new(alloc)
-            .some("metadata", &self.metadata)
             .some("cells", &self.cells)
+            .some("metadata", &self.metadata)
             .end()
     }
 }
@@ -559,13 +559,13 @@ pub struct DidChangeNotebookDocumentParams {
 
 impl ToJson for DidChangeNotebookDocumentParams {
     ghost stands = { λ it. object_of (
-        (codes "notebookDocument", Some (⟦<VersionedNotebookDocumentIdentifier as ToJson>⟧.stands it.notebook_document))
-        ∷ (codes "change", Some (⟦<NotebookDocumentChangeEvent as ToJson>⟧.stands it.change)) ∷ []) };
+        (codes "change", Some (⟦<NotebookDocumentChangeEvent as ToJson>⟧.stands it.change))
+        ∷ (codes "notebookDocument", Some (⟦<VersionedNotebookDocumentIdentifier as ToJson>⟧.stands it.notebook_document)) ∷ []) };
 
     fn to_json(&self, alloc: Global) -> Result<Value, AllocError> {
         Object::new(alloc)
-            .member("notebookDocument", &self.notebook_document)
             .member("change", &self.change)
+            .member("notebookDocument", &self.notebook_document)
             .end()
     }
 }
@@ -649,13 +649,13 @@ pub struct DidCloseNotebookDocumentParams {
 
 impl ToJson for DidCloseNotebookDocumentParams {
     ghost stands = { λ it. object_of (
-        (codes "notebookDocument", Some (⟦<NotebookDocumentIdentifier as ToJson>⟧.stands it.notebook_document))
-        ∷ (codes "cellTextDocuments", Some (⟦<Vec<TextDocumentIdentifier> as ToJson>⟧.stands it.cell_text_documents)) ∷ []) };
+        (codes "cellTextDocuments", Some (⟦<Vec<TextDocumentIdentifier> as ToJson>⟧.stands it.cell_text_documents))
+        ∷ (codes "notebookDocument", Some (⟦<NotebookDocumentIdentifier as ToJson>⟧.stands it.notebook_document)) ∷ []) };
 
     fn to_json(&self, alloc: Global) -> Result<Value, AllocError> {
         Object::new(alloc)
-            .member("notebookDocument", &self.notebook_document)
             .member("cellTextDocuments", &self.cell_text_documents)
+            .member("notebookDocument", &self.notebook_document)
             .end()
     }
 }

@@ -6,7 +6,9 @@ ghost use Rattle.serde_json.specs.View.{items_of, view};
 ghost use Rattle.lsp_types.specs.Json.{object_of};
 ghost use Rattle.lsp_types.specs.Written.{content_change, position, range};
 
-use crate::json::{Object, ToJson};
+use crate::json::text_writing::{write_items, write_map};
+use crate::json::{Object, ToJson, write_member};
+use lsp_json::{JsonWriteError, JsonWriter};
 use lsp_text::{ContentChange, Position, Range};
 use serde_json::Value;
 use std::alloc::{AllocError, Global};
@@ -18,6 +20,10 @@ impl ToJson for bool {
     fn to_json(&self, _alloc: Global) -> Result<Value, AllocError> {
         Ok(Value::Bool(*self))
     }
+
+    fn write_json(&self, _alloc: Global, out: &mut JsonWriter) -> Result<(), JsonWriteError> {
+        out.bool(*self)
+    }
 }
 
 impl ToJson for u32 {
@@ -26,6 +32,10 @@ impl ToJson for u32 {
     fn to_json(&self, _alloc: Global) -> Result<Value, AllocError> {
         Ok(Value::from(*self))
     }
+
+    fn write_json(&self, _alloc: Global, out: &mut JsonWriter) -> Result<(), JsonWriteError> {
+        out.u64(u64::from(*self))
+    }
 }
 
 impl ToJson for i32 {
@@ -33,6 +43,10 @@ impl ToJson for i32 {
 
     fn to_json(&self, _alloc: Global) -> Result<Value, AllocError> {
         Ok(Value::from(*self))
+    }
+
+    fn write_json(&self, _alloc: Global, out: &mut JsonWriter) -> Result<(), JsonWriteError> {
+        out.i64(i64::from(*self))
     }
 }
 
@@ -43,6 +57,10 @@ impl ToJson for f64 {
     fn to_json(&self, _alloc: Global) -> Result<Value, AllocError> {
         Ok(Value::from(*self))
     }
+
+    fn write_json(&self, _alloc: Global, out: &mut JsonWriter) -> Result<(), JsonWriteError> {
+        out.f64(*self)
+    }
 }
 
 impl ToJson for () {
@@ -50,6 +68,10 @@ impl ToJson for () {
 
     fn to_json(&self, _alloc: Global) -> Result<Value, AllocError> {
         Ok(Value::Null)
+    }
+
+    fn write_json(&self, _alloc: Global, out: &mut JsonWriter) -> Result<(), JsonWriteError> {
+        out.null()
     }
 }
 
@@ -59,6 +81,10 @@ impl ToJson for String {
     fn to_json(&self, alloc: Global) -> Result<Value, AllocError> {
         Value::try_from_str(alloc, self.as_str())
     }
+
+    fn write_json(&self, _alloc: Global, out: &mut JsonWriter) -> Result<(), JsonWriteError> {
+        out.str(self.as_str())
+    }
 }
 
 impl ToJson for Value {
@@ -66,6 +92,10 @@ impl ToJson for Value {
 
     fn to_json(&self, _alloc: Global) -> Result<Value, AllocError> {
         self.clone()
+    }
+
+    fn write_json(&self, _alloc: Global, out: &mut JsonWriter) -> Result<(), JsonWriteError> {
+        out.value(self)
     }
 }
 
@@ -78,6 +108,13 @@ impl<T: ToJson> ToJson for Option<T> {
             None => Ok(Value::Null),
         }
     }
+
+    fn write_json(&self, alloc: Global, out: &mut JsonWriter) -> Result<(), JsonWriteError> {
+        match self {
+            Some(value) => value.write_json(alloc, out),
+            None => out.null(),
+        }
+    }
 }
 
 impl<T: ToJson> ToJson for Vec<T> {
@@ -88,6 +125,10 @@ impl<T: ToJson> ToJson for Vec<T> {
             Ok(values) => Ok(Value::Array(values)),
             Err(failed) => Err(failed),
         }
+    }
+
+    fn write_json(&self, alloc: Global, out: &mut JsonWriter) -> Result<(), JsonWriteError> {
+        write_items(alloc, out, self.as_slice())
     }
 }
 
@@ -109,6 +150,10 @@ impl<T: ToJson> ToJson for BTreeMap<String, T> {
     fn to_json(&self, alloc: Global) -> Result<Value, AllocError> {
         map_to_json(alloc, self)
     }
+
+    fn write_json(&self, alloc: Global, out: &mut JsonWriter) -> Result<(), JsonWriteError> {
+        write_map(alloc, out, self)
+    }
 }
 
 /// A map, as it is written.
@@ -124,9 +169,16 @@ impl ToJson for Position {
 
     fn to_json(&self, alloc: Global) -> Result<Value, AllocError> {
         Object::new(alloc)
-            .member("line", &self.line)
             .member("character", &self.character)
+            .member("line", &self.line)
             .end()
+    }
+
+    fn write_json(&self, alloc: Global, out: &mut JsonWriter) -> Result<(), JsonWriteError> {
+        out.begin_object()?;
+        write_member(alloc, out, "character", &self.character)?;
+        write_member(alloc, out, "line", &self.line)?;
+        out.end_object()
     }
 }
 
@@ -135,9 +187,16 @@ impl ToJson for Range {
 
     fn to_json(&self, alloc: Global) -> Result<Value, AllocError> {
         Object::new(alloc)
-            .member("start", &self.start)
             .member("end", &self.end)
+            .member("start", &self.start)
             .end()
+    }
+
+    fn write_json(&self, alloc: Global, out: &mut JsonWriter) -> Result<(), JsonWriteError> {
+        out.begin_object()?;
+        write_member(alloc, out, "end", &self.end)?;
+        write_member(alloc, out, "start", &self.start)?;
+        out.end_object()
     }
 }
 

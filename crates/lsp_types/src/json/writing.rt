@@ -3,8 +3,10 @@ ghost use Rattle.std.specs.Prelude.{◌≡◌, false, map, option_map, string_by
 ghost use Rattle.serde_json.specs.Data.{Data, Members, array, no_members, object, string};
 ghost use Rattle.serde_json.specs.Find.{as_object};
 ghost use Rattle.serde_json.specs.View.{items_of, members_view, view};
+ghost use Rattle.lsp_json.specs.Writer.{Wrote};
 ghost use Rattle.lsp_types.specs.Json.{Has, with_member, with_members, with_object, with_rest};
 
+use lsp_json::{JsonWriteError, JsonWriter};
 use serde_json::{Map, Value};
 use std::alloc::{AllocError, Global};
 use std::collections::BTreeMap;
@@ -17,6 +19,16 @@ pub trait ToJson {
     /// Writes the value as JSON. `Err` means that an allocation failed.
     fn to_json(&self, alloc: Global) -> Result<Value, AllocError>
         ensures { IfOk result (λ value. view value ≡ stands self.now) };
+
+    /// Writes the value as JSON text: the text that `serde_json` writes for the tree of `to_json`. The error is
+    /// `TooDeep` if the value nests more levels than the writer may still open, and `OutOfMemory` if an allocation
+    /// failed. The default makes the tree first.
+    fn write_json(&self, alloc: Global, out: &mut JsonWriter) -> Result<(), JsonWriteError>
+        ensures { OnOk result (Wrote (stands self.now) out.old out.new) }
+    {
+        let tree = self.to_json(alloc)?;
+        out.value(&tree)
+    }
 }
 
 /// An object that is written, member after member. A failed allocation is kept until the end, so no step returns an

@@ -13,8 +13,8 @@ returns t c =
     ≡ map document_symbol (out-DocumentSymbol c.args.symbol.now).children.items
     = grind (arith, common_steps, c.loop-child.invariant, c.loop-child-test.false, c.deref-child-items.ensures.value)
     in
-    let written = c.end.ensures _ (c.list.ensures _ (c.member-4.ensures _ (c.member-3.ensures _ (c.some-3.ensures _
-    (c.some-2.ensures _ (c.member-2.ensures _ (c.some.ensures _ (c.member.ensures _ c.new.ensures)))))))) in
+    let written = c.end.ensures _ (c.some-3.ensures _ (c.member-4.ensures _ (c.member-3.ensures _ (c.member-2.ensures _
+    (c.member.ensures _ (c.some-2.ensures _ (c.some.ensures _ (c.list.ensures _ c.new.ensures)))))))) in
     subst (λ tree. IfOk c.end.result (λ value. view value ≡ tree))
     (sym (fold_out-DocumentSymbol Data symbol_step c.args.symbol.now))
     (subst (λ children. IfOk c.end.result (λ value. view value

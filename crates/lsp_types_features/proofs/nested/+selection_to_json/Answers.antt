@@ -14,7 +14,7 @@ returns-in-None t c =
     (out-SelectionRange c.args.selection.now).parent
     = search rules
     in
-    let written = c.end-in-None.ensures _ (c.value-in-None.ensures _ (c.member-in-None.ensures _
+    let written = c.end-in-None.ensures _ (c.member-in-None.ensures _ (c.value-in-None.ensures _
     c.new-in-None.ensures)) in
     subst (λ tree. IfOk c.end-in-None.result (λ value. view value ≡ tree))
     (sym (fold_out-SelectionRange Data selection_step c.args.selection.now))
@@ -28,7 +28,7 @@ returns-in_ok-parent-in-Some t c =
     (out-SelectionRange c.args.selection.now).parent
     = search rules
     in
-    let written = c.end.ensures _ (c.value.ensures _ (c.member.ensures _ c.new.ensures)) in
+    let written = c.end.ensures _ (c.member.ensures _ (c.value.ensures _ c.new.ensures)) in
     subst (λ tree. IfOk c.end.result (λ value. view value ≡ tree))
     (sym (fold_out-SelectionRange Data selection_step c.args.selection.now))
     (subst (λ parent. IfOk c.end.result (λ value. view value ≡ selection_with it parent))
