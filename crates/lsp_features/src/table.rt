@@ -15,9 +15,8 @@ use crate::feature::{Answers, Feature};
 use lsp_acts::Act;
 use lsp_calls::RequestRef;
 use lsp_json::JsonRef;
-use lsp_message::{Request, ResponseError};
-use lsp_methods::from_json;
-use lsp_types::ToJson;
+use lsp_message::{Request, RequestId, ResponseError, ResultText};
+use lsp_methods::{from_json, result_text};
 use serde_json::{Map, Value};
 use std::alloc::{AllocError, Global};
 
@@ -50,7 +49,7 @@ pub trait FeatureTable<S> {
         server: &mut S,
         alloc: Global,
         request: &RequestRef<'_>,
-    ) -> Result<Option<Result<Value, ResponseError>>, AllocError>
+    ) -> Result<Option<Result<ResultText, ResponseError>>, AllocError>
         ensures none { IfOk result (λ found. IfNone found
             (lacks request.now.method.now × (server.new ≡ server.old))) }
         ensures some { IfOk result (λ found. IfSome found (λ outcome.
@@ -77,7 +76,7 @@ impl<S> FeatureTable<S> for () {
         _server: &mut S,
         _alloc: Global,
         _request: &RequestRef<'_>,
-    ) -> Result<Option<Result<Value, ResponseError>>, AllocError> {
+    ) -> Result<Option<Result<ResultText, ResponseError>>, AllocError> {
         Ok(None)
     }
 }
@@ -110,7 +109,7 @@ where
         server: &mut S,
         alloc: Global,
         request: &RequestRef<'_>,
-    ) -> Result<Option<Result<Value, ResponseError>>, AllocError> {
+    ) -> Result<Option<Result<ResultText, ResponseError>>, AllocError> {
         if request.method != M::method() {
             return Rest::answer(server, alloc, request);
         }
@@ -123,7 +122,7 @@ fn outcome<M, S>(
     server: &mut S,
     alloc: Global,
     params: &JsonRef<'_>,
-) -> Result<Result<Value, ResponseError>, AllocError>
+) -> Result<Result<ResultText, ResponseError>, AllocError>
 where
     S: Answers<M>,
     M: Feature<S>,
@@ -133,7 +132,7 @@ where
     match from_json::<M::Params>(alloc, params)? {
         Ok(params) => {
             let found = server.answer(params)?;
-            Ok(Ok(found.to_json(alloc)?))
+            Ok(Ok(result_text(alloc, &found)?))
         }
         Err(error) => Ok(Err(error)),
     }
@@ -176,7 +175,7 @@ where
             let Request { id, method, params } = request;
             drop(method);
             drop(params);
-            Ok(Ok(Act::one(alloc, Act::Reply(id, outcome))?))
+            Ok(Ok(Act::one(alloc, reply_act(id, outcome))?))
         }
         None => Ok(Err(request)),
     }
@@ -203,8 +202,21 @@ where
     match T::answer(server, alloc, request)? {
         Some(outcome) => {
             let id = request.id.clone()?;
-            Ok(Some(Act::one(alloc, Act::Reply(id, outcome))?))
+            Ok(Some(Act::one(alloc, reply_act(id, outcome))?))
         }
         None => Ok(None),
+    }
+}
+
+/// Makes the act that sends this outcome.
+fn reply_act<P: Drop + PartialEq>(
+    id: RequestId,
+    outcome: Result<ResultText, ResponseError>,
+) -> Act<P>
+    ensures { act_view P.eq result ≡ replies id (outcome_view outcome) }
+{
+    match outcome {
+        Ok(text) => Act::ReplyText(id, text),
+        Err(error) => Act::Reply(id, Err(error)),
     }
 }

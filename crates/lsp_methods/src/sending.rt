@@ -7,7 +7,8 @@ ghost use Rattle.serde_json.specs.View.{view};
 
 use crate::params::from_value;
 use lsp_acts::Act;
-use lsp_message::{Notification, RequestId, ResponseError};
+use lsp_json::{JsonWriteError, JsonWriter};
+use lsp_message::{Notification, RequestId, ResponseError, ResultText};
 use lsp_types::{FromJson, NotificationToClient, RequestToClient, RequestToServer, ToJson};
 use serde_json::Value;
 use std::alloc::{AllocError, Global};
@@ -45,8 +46,8 @@ where
     Ok(Act::SendRequest(method, params, payload))
 }
 
-/// Makes the answer to a request of this method, with the tree that the result stands for. Use it for a request that is
-/// answered later, by its id.
+/// Makes the answer to a request of this method, with the JSON text of the result. Use it for a request that is answered
+/// later, by its id.
 ///
 /// `Err` means that an allocation failed.
 pub fn reply<M, P>(alloc: Global, id: RequestId, found: &M::Result) -> Result<Act<P>, AllocError>
@@ -55,8 +56,23 @@ where
     P: Drop + PartialEq,
     ensures { IfOk result (λ act. act_view P.eq act ≡ replies id (Ok (M.Result.stands found.now))) }
 {
-    let found = found.to_json(alloc)?;
-    Ok(Act::Reply(id, Ok(found)))
+    let text = result_text(alloc, found)?;
+    Ok(Act::ReplyText(id, text))
+}
+
+/// Writes the JSON text of a result from its type, without a tree. If the result nests more than 127 levels, the tree is
+/// kept, since `serde_json` would not read its text.
+///
+/// `Err` means that an allocation failed.
+pub fn result_text<T: ToJson>(alloc: Global, found: &T) -> Result<ResultText, AllocError>
+    ensures { IfOk result (λ text. view text ≡ T.stands found.now) }
+{
+    let mut out = JsonWriter::new(alloc)?;
+    match found.write_json(alloc, &mut out) {
+        Ok(()) => Ok(ResultText::from_text(out.into_string()?)),
+        Err(JsonWriteError::TooDeep) => ResultText::of(alloc, found.to_json(alloc)?),
+        Err(JsonWriteError::OutOfMemory) => Err(AllocError),
+    }
 }
 
 /// Reads the client's reply to a request of this method: its result, the client's error, or the error -32602 if the
