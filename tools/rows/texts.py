@@ -43,6 +43,32 @@ def member_answers(row):
     return [looks(tree[key]) if isinstance(tree, dict) and key in tree else f"no member, {looks(None)}"]
 
 
+def levels_of(value):
+    """How many levels a value nests."""
+    inside = value.values() if isinstance(value, dict) else value if isinstance(value, list) else None
+    return 0 if inside is None else 1 + max(map(levels_of, inside), default=0)
+
+
+def text_answers(row):
+    """The text that the steps write, with no space. At most 127 levels nest."""
+    text, levels = "", 0
+    for step in row.split("; "):
+        word, _, rest = step.partition(" ")
+        value = json.loads(rest or "null")
+        piece = {"open": lambda: "[" * value, "close": lambda: "]" * value, "key": lambda: f"{ordered(value)}:"}.get(word, lambda: ordered(value) if rest else word)()
+        begun = levels_of(value) if word == "value" else value if word == "open" else int(word in "[{")
+        if levels + begun > 127:
+            return ["too deep"]
+        levels += 0 if word == "value" else begun - (value if word == "close" else int(word in "]}"))
+        text += "," * (text[-1:] not in ("", "[", "{", ":") and piece[0] not in "]}") + piece
+    return [text]
+
+
+def deep_answers(row):
+    """So many lists, each in the next."""
+    return ["[" * int(row) + "]" * int(row)]
+
+
 def content_answers(body):
     """The call that a content part holds. One with the method `exit` goes back, as what holds no call."""
     came = meaning(body)
@@ -56,6 +82,8 @@ ROWS = {
     "json": json_answers,
     "quoted": lambda row: json_answers(json.loads(row)),
     "member": member_answers,
+    "text": text_answers,
+    "deep": deep_answers,
     "content": lambda row: content_answers(row.encode()),
     "octets": lambda row: content_answers(row.encode("latin-1")),
 }

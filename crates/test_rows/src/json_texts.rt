@@ -1,6 +1,6 @@
 // Texts of JSON that are read where they stand, beside their trees.
 use crate::messages::{text_in, value_in};
-use crate::said::Said;
+use crate::said::{Said, ended};
 use json::Scratch;
 use lsp_json::{JsonItems, JsonRef, JsonText};
 use serde_json::{Number, Value};
@@ -87,12 +87,6 @@ fn in_tree(said: &mut Said, text: &str, key: Option<&str>) -> String {
         }
     }
     ended(said, found)
-}
-
-/// The text that was said, and whether it lacks something.
-fn ended(said: &mut Said, found: Said) -> String {
-    said.is_short = said.is_short || found.is_short;
-    found.text
 }
 
 fn say_at(said: &mut Said, root: &JsonRef<'_>, key: Option<&str>) {

@@ -15,6 +15,7 @@
 //! - `announce`: what a table of features announces. `answer`: what it makes of a request.
 //! - `json`, `quoted`, `member`: a text of JSON, the same given as a text of JSON, and a member of what it has, each read
 //!   where it stands. `content`, `octets`: a content part, and one by its bytes: the call that it holds.
+//! - `text`: the JSON text that steps write. `deep`: a result of nested lists.
 //! - `document`: a notification about an open document.
 //!
 //! If an allocation fails, in a call or in the program, the row has a line `refused: ..`, and is run again. The program
@@ -28,6 +29,7 @@ mod dispatching;
 mod documents;
 mod forms;
 mod json_texts;
+mod json_writing;
 mod links;
 mod lists;
 mod many;

@@ -2,8 +2,8 @@
 use crate::documents::Documents;
 use crate::said::Said;
 use crate::{
-    by_method, call_texts, dispatching, json_texts, links, lists, messages, plain, queues,
-    small_calls, tables, types, uris,
+    by_method, call_texts, dispatching, json_texts, json_writing, links, lists, messages, plain,
+    queues, small_calls, tables, types, uris,
 };
 use std::alloc::Global;
 
@@ -82,6 +82,7 @@ impl Rows {
             "json" => json_texts::whole(said, rest),
             "quoted" => json_texts::quoted(said, rest),
             "member" => json_texts::member(said, rest),
+            "text" | "deep" => json_writing::made(said, word, rest),
             "content" => call_texts::content(said, rest),
             "octets" => call_texts::octets(said, rest),
             "offset" => uris::offset(said, rest),

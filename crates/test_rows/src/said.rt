@@ -202,6 +202,12 @@ impl Said {
     }
 }
 
+/// The text that was said apart, and whether it lacks something.
+pub fn ended(said: &mut Said, found: Said) -> String {
+    said.is_short = said.is_short || found.is_short;
+    found.text
+}
+
 /// Adds a byte to a text: one that is no visible ASCII character as `\r`, `\n` or `\x` and two digits.
 fn push_escaped(text: &mut String, byte: u8) -> Result<(), AllocError> {
     match byte {

@@ -1,9 +1,10 @@
 // Values that are read by the types of `lsp_types` and written again.
+use crate::json_writing::say_text;
 use crate::messages::{text_in, value_in};
 use crate::more_types;
-use crate::said::Said;
+use crate::said::{Said, ended};
 use lsp_documents::SyncOptions;
-use lsp_json::JsonRef;
+use lsp_json::{JsonRef, JsonWriteError, JsonWriter};
 use lsp_types::json::Misfit;
 use lsp_types::{
     ApplyWorkspaceEditParams, ApplyWorkspaceEditResult, CancelParams, ChangeNotifications,
@@ -82,12 +83,38 @@ pub fn unfit(said: &mut Said, misfit: Misfit) {
     }
 }
 
-/// Says a value of one of LSP's types as JSON.
+/// Says a value of one of LSP's types as JSON, and also its tree, if that is something else.
 pub fn say_json<T: ToJson>(said: &mut Said, value: &T) {
-    match value.to_json(said.alloc) {
-        Ok(tree) => said.show(tree),
-        Err(_) => said.is_short = true,
+    let text = in_text(said, value);
+    let tree = in_tree(said, value);
+    said.push(text.as_str());
+    if text != tree {
+        said.push("; but its tree is ");
+        said.push(tree.as_str());
     }
+    drop(text);
+    drop(tree);
+}
+
+fn in_text<T: ToJson>(said: &mut Said, value: &T) -> String {
+    let mut found = Said::new(said.alloc);
+    say_text(&mut found, text_of(said.alloc, value));
+    ended(said, found)
+}
+
+fn text_of<T: ToJson>(alloc: Global, value: &T) -> Result<String, JsonWriteError> {
+    let mut out = JsonWriter::new(alloc)?;
+    value.write_json(alloc, &mut out)?;
+    Ok(out.into_string()?)
+}
+
+fn in_tree<T: ToJson>(said: &mut Said, value: &T) -> String {
+    let mut found = Said::new(said.alloc);
+    match value.to_json(said.alloc) {
+        Ok(tree) => found.show(tree),
+        Err(_) => found.is_short = true,
+    }
+    ended(said, found)
 }
 
 /// Says another value as JSON.
