@@ -109,6 +109,14 @@ def echo(name, length, count, most_open=64):
     return Load("echo", name, count, request(params), reply(params), most_open=most_open)
 
 
+def typed(name, length, count, most_open=64):
+    """Requests that get their report back. A server can read and write it by its type."""
+    source = random.Random(length)
+    found = taken((diagnostic(source) for _ in itertools.count()), length - len(request({"items": [], "kind": "full"})))
+    params = {"items": found, "kind": "full"}
+    return Load("typed", f"{name}, by types", count, request(params), reply(params), most_open=most_open)
+
+
 def result(name, length, count, most_open=64):
     """Small requests that get a list back."""
     count_of_places = length // PLACE
@@ -141,6 +149,7 @@ def loads(divisor):
     return [
         pump("98 B", 98, part(40_000)), pump("2 KB", 2_000, part(8_000)), pump("1 MB", 1_000_000, part(24)),
         echo("98 B", 98, part(3_000)), echo("2 KB", 2_000, part(2_000)), echo("1 MB", 1_000_000, part(12), 4),
+        typed("2 KB", 2_000, part(2_000)),
         result("2 KB", 2_000, part(2_000)), result("64 KB", 64_000, part(150)), result("1 MB", 1_000_000, part(8), 4),
         keystrokes("1 KB", 1_000, part(400)), keystrokes("100 KB", 100_000, part(100)), keystrokes("1 MB", 1_000_000, part(25)),
         computations(50_000_000 // divisor),

@@ -138,6 +138,7 @@ def build_crate(folder):
 def serving(command, *kinds):
     """The words of the kinds that a server knows: of all, if none is named."""
     words = {"echo": [*command, "serve"], "result": [*command, "drops", "PLACES"], "text": [*command, "texts"]}
+    words["typed"] = words["echo"]
     return {kind: words[kind] for kind in kinds or words}
 
 
@@ -150,12 +151,12 @@ def built_by_cpp(source, *options):
 def build_rapid():
     path = built_by_cpp("rapid.cpp", "-I", unpacked(["rapidjson-dev"]) / "usr/include")
     version = f"RapidJSON {version_of('rapidjson-dev')}, {run(['g++', '--version']).splitlines()[0]}"
-    return Program("RapidJSON", {**serving([path], "echo", "result"), "pump": [path, "pump"]}, version)
+    return Program("RapidJSON", {**serving([path], "echo", "result", "typed"), "pump": [path, "pump"]}, version)
 
 
 def build_copy():
     path = built_by_cpp("copy.cpp")
-    return Program("copy", {"pump": [path, "pump"], "echo": [path, "serve"]}, copies=True)
+    return Program("copy", {"pump": [path, "pump"], **serving([path], "echo", "typed")}, copies=True)
 
 
 def build_python():

@@ -2,6 +2,7 @@
 //!
 //!     bench json                                  each message once more, by `serde_json` alone: the least cost
 //!     bench session [speaking] [null]             a session on one thread: each request gets its params back, or null
+//!     bench typed                                 the same of reports of diagnostics, which are read and written by their type
 //!     bench threads pass | pump | run_threads | run_in_threads
 //!                                                 messages passed on by one thread and by two; the sessions on three threads
 //!     bench drops session | run_threads | connection COUNT
@@ -12,8 +13,8 @@
 //!     bench all                                   each of these on the same input, under its name
 //!
 //! All but `queues` and `texts` read frames from standard input, and write frames to standard output. `speaking` is a server that speaks
-//! (`ServerApplication`), which gives the same replies. `all` leaves out `drops`, and `jobs`, whose replies come in the order in which they are
-//! ready.
+//! (`ServerApplication`), which gives the same replies. `all` leaves out `drops`, `typed`, and `jobs`, whose replies come in the order in which
+//! they are ready.
 #![tactic(auto)]
 
 mod drops;
@@ -24,6 +25,7 @@ mod session;
 mod speaking;
 mod texts;
 mod threads;
+mod typed;
 
 use anyhow::{Error, Result};
 use lsp_server::running::keep_freed_memory;
@@ -47,7 +49,7 @@ where
 const READ_AHEAD: usize = 65536;
 
 const USAGE: &str =
-    "usage: bench json | session [speaking] [null] | threads WAY | drops WAY COUNT | jobs WORKERS | queues [N ..] | texts [N ..] | all";
+    "usage: bench json | session [speaking] [null] | typed | threads WAY | drops WAY COUNT | jobs WORKERS | queues [N ..] | texts [N ..] | all";
 
 /// The measures that `all` takes.
 static ALL: [&str; 10] = [
@@ -180,6 +182,7 @@ where
         "session null" => session::serve(alloc, reader, writer, Echo::new(true)),
         "session speaking" => speaking::serve(alloc, reader, writer, false),
         "session speaking null" => speaking::serve(alloc, reader, writer, true),
+        "typed" => typed::serve(alloc, reader, writer),
         "threads pass" => threads::pass_on(alloc, reader, writer),
         _ => Err(Error::msg(USAGE)),
     }
