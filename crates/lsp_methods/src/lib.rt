@@ -3,7 +3,8 @@
 //! made. After `HoverRequest::METHOD =>` in a `match` the prover sees this without help.
 //!
 //! Params are sent as the tree that they stand for (`ToJson`), and a result is written as JSON text from its type. A tree
-//! is read as its type says (`FromJson`). The contracts have both. For params and results of your own with `serde`, use the calls of `lsp_acts` and `lsp_message`.
+//! is read as its type says (`FromJson`). The contracts have both. For params and results of your own with `serde`, use
+//! the calls of `lsp_acts` and `lsp_message`.
 #![tactic(auto)]
 
 mod configuration;
