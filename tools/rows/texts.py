@@ -49,18 +49,29 @@ def levels_of(value):
     return 0 if inside is None else 1 + max(map(levels_of, inside), default=0)
 
 
+def text_of_step(word, value):
+    """What a step adds to the text, beside a comma. A step without a value is what it adds."""
+    if word == "open":
+        return "[" * value
+    if word == "close":
+        return "]" * value
+    return f"{ordered(value)}:" if word == "key" else ordered(value)
+
+
 def text_answers(row):
     """The text that the steps write, with no space. At most 127 levels nest."""
     text, levels = "", 0
     for step in row.split("; "):
         word, _, rest = step.partition(" ")
-        value = json.loads(rest or "null")
-        piece = {"open": lambda: "[" * value, "close": lambda: "]" * value, "key": lambda: f"{ordered(value)}:"}.get(word, lambda: ordered(value) if rest else word)()
-        begun = levels_of(value) if word == "value" else value if word == "open" else int(word in "[{")
-        if levels + begun > 127:
+        added = text_of_step(word, json.loads(rest)) if rest else step
+        inside = levels_of(json.loads(rest)) if word == "value" else 0
+        is_bracket = word in ("open", "close", "[", "]", "{", "}")
+        begun = len(added) if is_bracket and added[0] in "[{" else 0
+        if levels + begun + inside > 127:
             return ["too deep"]
-        levels += 0 if word == "value" else begun - (value if word == "close" else int(word in "]}"))
-        text += "," * (text[-1:] not in ("", "[", "{", ":") and piece[0] not in "]}") + piece
+        levels += begun - (len(added) if is_bracket and added[0] in "]}" else 0)
+        follows = text[-1:] not in ("", "[", "{", ":") and added[0] not in "]}"
+        text += "," * follows + added
     return [text]
 
 

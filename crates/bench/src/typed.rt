@@ -1,4 +1,5 @@
-//! The same session with a `Server` that reads a report of diagnostics by its type, and writes it from its type. It makes no tree.
+//! The same session with a `Server` that reads a report of diagnostics by its type, and writes it from its type. It makes
+//! no tree.
 use crate::session::ended;
 use anyhow::Result;
 use lsp_json::JsonRef;
