@@ -4,6 +4,8 @@ pub mod Fitting
 pub mod Whole
 pub mod Looks
 pub mod Trees
+pub mod Digits
+pub mod OtherKeys
 pub mod Writing
 pub mod WrittenTrees
 pub mod WrittenNumbers

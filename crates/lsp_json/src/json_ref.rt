@@ -1,5 +1,6 @@
 //! A JSON value that is read where it stands.
 
+use crate::others::{text_has_others, tree_has_others};
 use crate::text_ref::{TextItems, TextRef};
 use crate::tree::tree as tree_of;
 use serde_json::{Number, Value};
@@ -62,12 +63,12 @@ pub struct JsonRef<'a> {
 }
 
 impl<'a> JsonRef<'a> {
-    ghost use Rattle.std.specs.Prelude.{◌≡◌, is_some, option_map, option_and_then, IfOk, IfSome};
+    ghost use Rattle.std.specs.Prelude.{◌≡◌, is_some, map, option_map, option_and_then, IfOk, IfSome};
     ghost use Rattle.serde_json.specs.Data.{null};
     ghost use Rattle.serde_json.specs.Find.{as_array, as_bool, as_i64, as_null, as_number, as_object, as_str, as_u64};
     ghost use Rattle.serde_json.specs.Find.{get, to_float};
     ghost use Rattle.serde_json.specs.View.{number_view, view};
-    ghost use Rattle.lsp_json.specs.JsonRef.{items_data, json_data};
+    ghost use Rattle.lsp_json.specs.JsonRef.{has_others, items_data, json_data};
     ghost use Rattle.lsp_json.specs.Text.{text_data};
 
     /// Refers to a tree.
@@ -206,6 +207,18 @@ impl<'a> JsonRef<'a> {
             Source::Tree(tree) => Some(JsonRef::of_tree(tree.get(key)?)),
             Source::Text(text) => Some(JsonRef::of_text(text.get(key)?)),
             Source::Null => None,
+        }
+    }
+
+    /// Returns whether this is an object that has a member with another key than these.
+    #[tactic(auto, unfolding(crate::specs::JsonRef::json_data))]
+    pub fn has_others(&self, keys: &[&'static str]) -> bool
+        ensures { result ≡ has_others (map (λ key. key.now) keys.now) (json_data self.now) }
+    {
+        match &self.source {
+            Source::Tree(tree) => tree_has_others(tree, keys),
+            Source::Text(text) => text_has_others(text, keys),
+            Source::Null => false,
         }
     }
 

@@ -5,6 +5,7 @@ mod fits;
 mod json_ref;
 mod json_text;
 mod numbers;
+mod others;
 mod text_ref;
 mod tree;
 mod writer;

@@ -1,10 +1,11 @@
 //! The numbers of a text.
 
-ghost use Rattle.std.specs.Prelude.{◌≡◌, false, option_map, true};
+ghost use Rattle.std.specs.Prelude.{◌≡◌, IfSome, Some, false, option_map, true};
+ghost use Rattle.serde_json.specs.Data.{unsigned};
 ghost use Rattle.serde_json.specs.Read.{float_of, number_from, number_of};
 ghost use Rattle.serde_json.specs.View.{number_view};
 
-use fast_float::Numeral;
+use fast_float::{Numeral, parse_u64};
 use serde_json::Number;
 
 /// Reads the text of a number. It gives `None` where the number is too large for a float.
@@ -12,9 +13,23 @@ use serde_json::Number;
 pub(crate) fn number(text: &str) -> Option<Number>
     ensures { option_map number_view result ≡ number_of text.now }
 {
+    if let Some(number) = from_digits(text.as_bytes()) {
+        return Some(Number::from(number));
+    }
     match text.as_bytes().split_first() {
         Some((b'-', digits)) => below_zero(&Numeral::scan(digits)),
         _ => not_below_zero(&Numeral::scan(text.as_bytes())),
+    }
+}
+
+/// Reads a text that is digits alone. It gives `None` where it is another text, and where the number needs more than 64
+/// bits.
+fn from_digits(text: &[u8]) -> Option<u64>
+    ensures { IfSome result (λ number. number_of text.now ≡ Some (unsigned number)) }
+{
+    match text.first() {
+        Some(b'0'..=b'9') => parse_u64(text).ok(),
+        _ => None,
     }
 }
 
