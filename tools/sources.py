@@ -18,7 +18,7 @@ from functools import lru_cache
 from pathlib import Path
 
 ROOT = Path(__file__).resolve().parent.parent
-FUNCTION = re.compile(r'(?m)^( *)((?:pub(?:\([^)]*\))? )?)((?:const |unsafe |extern "." )*)fn \w+')
+FUNCTION = re.compile(r'(?m)^( *)((?:pub(?:\([^)]*\))? )?)((?:const |final |unsafe |extern "." )*)fn \w+')
 CLAUSE = re.compile(r"\b(?:ensures|requires)(?:\s+\w+)?\s*$")
 USE = re.compile(r"(?m)^ *(?:ghost )?use [^;]*;\n?")
 TACTIC = re.compile(r"(?m)^ *#!?\[tactic\b")
@@ -223,7 +223,7 @@ class Place:
 
 def heads_before(text, at):
     """The heads of the functions up to the line of a place."""
-    return list(re.finditer(r'(?m)^( *)(?:pub(?:\([^)]*\))? )?(?:const |unsafe |extern "." )*fn (\w+)', text[: text.find("\n", at)]))
+    return list(re.finditer(r'(?m)^( *)(?:pub(?:\([^)]*\))? )?(?:const |final |unsafe |extern "." )*fn (\w+)', text[: text.find("\n", at)]))
 
 
 def name_at(text, at):

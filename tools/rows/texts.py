@@ -18,7 +18,7 @@ def kinds(value):
     if isinstance(value, str):
         return [f"text {debug_text(value)}"]
     if isinstance(value, dict):
-        return ["object"]
+        return ["object", "others"] if value.keys() - {"a", "b"} else ["object"]
     if isinstance(value, list):
         return ["list", *map(ordered, value), "end"]
     u64 = [f"u64 {value}"] if isinstance(value, int) and 0 <= value < 2**64 else []
@@ -68,7 +68,7 @@ def text_answers(row):
         is_bracket = word in ("open", "close", "[", "]", "{", "}")
         begun = len(added) if is_bracket and added[0] in "[{" else 0
         if levels + begun + inside > 127:
-            return ["too deep"]
+            return ["more than 127 levels of JSON"]
         levels += begun - (len(added) if is_bracket and added[0] in "]}" else 0)
         follows = text[-1:] not in ("", "[", "{", ":") and added[0] not in "]}"
         text += "," * follows + added

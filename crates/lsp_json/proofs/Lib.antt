@@ -6,6 +6,3 @@ pub mod Looks
 pub mod Trees
 pub mod Digits
 pub mod OtherKeys
-pub mod Writing
-pub mod WrittenTrees
-pub mod WrittenNumbers

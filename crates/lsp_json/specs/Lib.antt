@@ -2,4 +2,3 @@ pub mod JsonRef
 pub mod JsonText
 pub mod Text
 pub mod Fits
-pub mod Writer

@@ -8,8 +8,6 @@ mod numbers;
 mod others;
 mod text_ref;
 mod tree;
-mod writer;
 
 pub use json_ref::{JsonItems, JsonRef};
 pub use json_text::JsonText;
-pub use writer::{JsonWriteError, JsonWriter};

@@ -7,7 +7,7 @@ ghost use Rattle.serde_json.specs.View.{view};
 
 use crate::params::from_value;
 use lsp_acts::Act;
-use lsp_json::{JsonWriteError, JsonWriter};
+use lsp_json_write::{JsonWriteError, JsonWriter};
 use lsp_message::{Notification, RequestId, ResponseError, ResultText};
 use lsp_types::{FromJson, NotificationToClient, RequestToClient, RequestToServer, ToJson};
 use serde_json::Value;
@@ -68,7 +68,7 @@ pub fn result_text<T: ToJson>(alloc: Global, found: &T) -> Result<ResultText, Al
     ensures { IfOk result (λ text. view text ≡ T.stands found.now) }
 {
     let mut out = JsonWriter::new(alloc)?;
-    match found.write_json(alloc, &mut out) {
+    match found.write_json(&mut out) {
         Ok(()) => Ok(ResultText::from_text(out.into_string()?)),
         Err(JsonWriteError::TooDeep) => ResultText::of(alloc, found.to_json(alloc)?),
         Err(JsonWriteError::OutOfMemory) => Err(AllocError),

@@ -2,9 +2,9 @@ mod FileUriLemmas
 mod FolderLemmas
 pub mod ItemLemmas
 pub mod JsonLemmas
-mod MapTexts
+mod MapWrites
 mod OfferLemmas
 pub mod ReadLemmas
 mod RestLemmas
 mod SymbolLemmas
-pub mod TextLemmas
+pub mod WriteLemmas

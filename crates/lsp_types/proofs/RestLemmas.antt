@@ -1,15 +1,22 @@
 -- How the members of an object are read that have other keys.
 use Rattle.std.proofs.Common.{◌≡◌, ℕ, Bool, true, false, ◌||◌, true≢false, List, [], ◌∷◌, ◌++◌, Some, None, length}
 use Rattle.std.proofs.Common.{map, string_bytes, bytes_eq, if◌then◌else◌, sym, ap, refl, subst, ◌∙◌, append_assoc}
-use Rattle.std.proofs.Common.{append-nil, string_cmp, nat_cmp, Greater}
+use Rattle.std.proofs.Common.{append-nil, string_cmp, nat_cmp, Greater, Option, is_some, not, option_map, unwrap_or}
+use Rattle.std.proofs.lemmas.Bool.{or_parts}
 use Rattle.std.specs.Cmp.Lexicographic.{slice_cmp}
 use Rattle.std.specs.List.{list_any}
 use Rattle.std.specs.List.Sorted.{IsStrictlySortedBy}
 use Rattle.std.specs.Map.{keys_of}
 use Rattle.serde_json.specs.Data.{Data, Members, no_members, member, object, put}
 use Rattle.serde_json.specs.View.{members_view, view}
-use Rattle.lsp_types.specs.Reads.{is_named, object_if, others, with_other}
+use Rattle.serde_json.specs.Find.{as_object}
+use Rattle.lsp_json.specs.JsonRef.{has_others, others_within}
+use Rattle.lsp_types.specs.Reads.{Beside, InSome, is_named, object_if, others, with_other}
 use Rattle.lsp_types.proofs.ReadLemmas.{Entry, above}
+
+not_false : (is : Bool) → not is ≡ false → is ≡ true
+not_false true none = refl
+not_false false none = sym none
 
 -- an entry that is named is passed over
 passed : (keys : List (List ℕ)) (done : List Entry) (e : Entry) → is_named keys (string_bytes e.0) ≡ true
@@ -104,3 +111,24 @@ pub with_new : {T : Type 0} (text : T → List ℕ) (keys : List T) (key : List 
     → with_other (map text keys) key json members ≡ put key json members
 with_new text keys key json members other =
     ap (λ is. if is then members else put key json members) (sym (among text keys key) ∙ other)
+
+-- each member is named, so none is another one
+none_other : (keys : List (List ℕ)) (members : Members) → others_within keys members ≡ false
+    → others keys members ≡ no_members
+none_other keys no_members none = refl
+none_other keys (member key json rest) none =
+    let each = or_parts _ _ none in
+    ap (λ is. if is then others keys rest else member key json (others keys rest)) (not_false _ each.0)
+    ∙ none_other keys rest each.1
+
+nothing_in : (keys : List (List ℕ)) (found : Option Members) → is_some found ≡ true
+    → unwrap_or (option_map (others_within keys) found) false ≡ false
+    → InSome (λ members. None ≡ object_if (others keys members)) found
+nothing_in keys None is none = true≢false (sym is)
+nothing_in keys (Some members) is none = sym (ap object_if (none_other keys members none))
+
+-- no value is read where each member is named
+pub nothing_beside : (keys : List (List ℕ)) (json : Data) → is_some (as_object json) ≡ true
+    → has_others keys json ≡ false → Beside keys json None
+unfolding Beside
+nothing_beside keys json is none = nothing_in keys (as_object json) is none

@@ -4,6 +4,6 @@ pub mod Json
 pub mod Offers
 pub mod Reads
 pub mod Symbols
-pub mod Texts
+pub mod Writes
 pub mod Tokens
 pub mod Written

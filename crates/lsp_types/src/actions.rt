@@ -10,14 +10,16 @@ use crate::diagnostics::Diagnostic;
 use crate::documents::TextDocumentIdentifier;
 use crate::edits::WorkspaceEdit;
 use crate::json::{
-    FromJson, Members, Misfit, Object, ToJson, fitting, number_within, write_member, write_some,
+    FromJson, KnownMembers, Members, Misfit, ToJson, fitting, number_within, write_member,
+    write_some, write_with,
 };
 use crate::progress::ProgressToken;
 use crate::workspace::Command;
-use lsp_json::{JsonRef, JsonWriteError, JsonWriter};
+use lsp_json::JsonRef;
+use lsp_json_write::JsonSink;
 use lsp_text::Range;
 use serde_json::Value;
-use std::alloc::{AllocError, Global};
+use std::alloc::Global;
 
 /// The params of `textDocument/codeAction` (LSP 3.17, "Code Action Request"). The result is a list of
 /// `CodeActionOrCommand` or null.
@@ -44,14 +46,14 @@ impl ToJson for CodeActionParams {
         ∷ (codes "textDocument", Some (⟦<TextDocumentIdentifier as ToJson>⟧.stands it.text_document))
         ∷ (codes "workDoneToken", option_map ⟦<ProgressToken as ToJson>⟧.stands it.work_done_token) ∷ []) };
 
-    fn to_json(&self, alloc: Global) -> Result<Value, AllocError> {
-        Object::new(alloc)
-            .member("context", &self.context)
-            .some("partialResultToken", &self.partial_result_token)
-            .member("range", &self.range)
-            .member("textDocument", &self.text_document)
-            .some("workDoneToken", &self.work_done_token)
-            .end()
+    fn write_json<S: JsonSink>(&self, out: &mut S) -> Result<(), S::Error> {
+        out.begin_object()?;
+        write_member(out, "context", &self.context)?;
+        write_some(out, "partialResultToken", &self.partial_result_token)?;
+        write_member(out, "range", &self.range)?;
+        write_member(out, "textDocument", &self.text_document)?;
+        write_some(out, "workDoneToken", &self.work_done_token)?;
+        out.end_object()
     }
 }
 
@@ -109,12 +111,12 @@ impl ToJson for CodeActionContext {
         ∷ (codes "only", option_map ⟦<Vec<String> as ToJson>⟧.stands it.only)
         ∷ (codes "triggerKind", option_map ⟦<CodeActionTriggerKind as ToJson>⟧.stands it.trigger_kind) ∷ []) };
 
-    fn to_json(&self, alloc: Global) -> Result<Value, AllocError> {
-        Object::new(alloc)
-            .member("diagnostics", &self.diagnostics)
-            .some("only", &self.only)
-            .some("triggerKind", &self.trigger_kind)
-            .end()
+    fn write_json<S: JsonSink>(&self, out: &mut S) -> Result<(), S::Error> {
+        out.begin_object()?;
+        write_member(out, "diagnostics", &self.diagnostics)?;
+        write_some(out, "only", &self.only)?;
+        write_some(out, "triggerKind", &self.trigger_kind)?;
+        out.end_object()
     }
 }
 
@@ -158,8 +160,8 @@ impl CodeActionTriggerKind {
 impl ToJson for CodeActionTriggerKind {
     ghost stands = { λ it. number (unsigned it.0) };
 
-    fn to_json(&self, alloc: Global) -> Result<Value, AllocError> {
-        self.0.to_json(alloc)
+    fn write_json<S: JsonSink>(&self, out: &mut S) -> Result<(), S::Error> {
+        self.0.write_json(out)
     }
 }
 
@@ -185,13 +187,9 @@ impl ToJson for CodeActionDisabled {
     ghost stands = { λ it. object_of (
         (codes "reason", Some (⟦<String as ToJson>⟧.stands it.reason)) ∷ []) };
 
-    fn to_json(&self, alloc: Global) -> Result<Value, AllocError> {
-        Object::new(alloc).member("reason", &self.reason).end()
-    }
-
-    fn write_json(&self, alloc: Global, out: &mut JsonWriter) -> Result<(), JsonWriteError> {
+    fn write_json<S: JsonSink>(&self, out: &mut S) -> Result<(), S::Error> {
         out.begin_object()?;
-        write_member(alloc, out, "reason", &self.reason)?;
+        write_member(out, "reason", &self.reason)?;
         out.end_object()
     }
 }
@@ -267,46 +265,35 @@ impl CodeAction {
     }
 }
 
-impl ToJson for CodeAction {
-    ghost stands = { λ it. object_with (
-        (codes "command", option_map ⟦<Command as ToJson>⟧.stands it.command)
+impl KnownMembers for CodeAction {
+    ghost known = { λ it. (codes "command", option_map ⟦<Command as ToJson>⟧.stands it.command)
         ∷ (codes "data", option_map ⟦<Value as ToJson>⟧.stands it.«data»)
         ∷ (codes "diagnostics", option_map ⟦<Vec<Diagnostic> as ToJson>⟧.stands it.diagnostics)
         ∷ (codes "disabled", option_map ⟦<CodeActionDisabled as ToJson>⟧.stands it.disabled)
         ∷ (codes "edit", option_map ⟦<WorkspaceEdit as ToJson>⟧.stands it.edit)
         ∷ (codes "isPreferred", option_map ⟦<bool as ToJson>⟧.stands it.is_preferred)
         ∷ (codes "kind", option_map ⟦<String as ToJson>⟧.stands it.kind)
-        ∷ (codes "title", Some (⟦<String as ToJson>⟧.stands it.title)) ∷ []) (option_map view it.more) };
+        ∷ (codes "title", Some (⟦<String as ToJson>⟧.stands it.title)) ∷ [] };
 
-    fn to_json(&self, alloc: Global) -> Result<Value, AllocError> {
-        Object::new(alloc)
-            .some("command", &self.command)
-            .some("data", &self.data)
-            .some("diagnostics", &self.diagnostics)
-            .some("disabled", &self.disabled)
-            .some("edit", &self.edit)
-            .some("isPreferred", &self.is_preferred)
-            .some("kind", &self.kind)
-            .member("title", &self.title)
-            .rest(&self.more)
-            .end()
-    }
-
-    fn write_json(&self, alloc: Global, out: &mut JsonWriter) -> Result<(), JsonWriteError> {
-        if self.more.is_some() {
-            let tree = self.to_json(alloc)?;
-            return out.value(&tree);
-        }
+    fn write_known<S: JsonSink>(&self, out: &mut S) -> Result<(), S::Error> {
         out.begin_object()?;
-        write_some(alloc, out, "command", &self.command)?;
-        write_some(alloc, out, "data", &self.data)?;
-        write_some(alloc, out, "diagnostics", &self.diagnostics)?;
-        write_some(alloc, out, "disabled", &self.disabled)?;
-        write_some(alloc, out, "edit", &self.edit)?;
-        write_some(alloc, out, "isPreferred", &self.is_preferred)?;
-        write_some(alloc, out, "kind", &self.kind)?;
-        write_member(alloc, out, "title", &self.title)?;
+        write_some(out, "command", &self.command)?;
+        write_some(out, "data", &self.data)?;
+        write_some(out, "diagnostics", &self.diagnostics)?;
+        write_some(out, "disabled", &self.disabled)?;
+        write_some(out, "edit", &self.edit)?;
+        write_some(out, "isPreferred", &self.is_preferred)?;
+        write_some(out, "kind", &self.kind)?;
+        write_member(out, "title", &self.title)?;
         out.end_object()
+    }
+}
+
+impl ToJson for CodeAction {
+    ghost stands = { λ it. object_with (⟦<CodeAction as KnownMembers>⟧.known it) (option_map view it.more) };
+
+    fn write_json<S: JsonSink>(&self, out: &mut S) -> Result<(), S::Error> {
+        write_with(out, self, &self.more)
     }
 }
 
@@ -389,17 +376,10 @@ impl ToJson for CodeActionOrCommand {
       | Action it ↦ ⟦<CodeAction as ToJson>⟧.stands it
     ] };
 
-    fn to_json(&self, alloc: Global) -> Result<Value, AllocError> {
+    fn write_json<S: JsonSink>(&self, out: &mut S) -> Result<(), S::Error> {
         match self {
-            CodeActionOrCommand::Command(it) => it.to_json(alloc),
-            CodeActionOrCommand::Action(it) => it.to_json(alloc),
-        }
-    }
-
-    fn write_json(&self, alloc: Global, out: &mut JsonWriter) -> Result<(), JsonWriteError> {
-        match self {
-            CodeActionOrCommand::Command(it) => it.write_json(alloc, out),
-            CodeActionOrCommand::Action(it) => it.write_json(alloc, out),
+            CodeActionOrCommand::Command(it) => it.write_json(out),
+            CodeActionOrCommand::Action(it) => it.write_json(out),
         }
     }
 }

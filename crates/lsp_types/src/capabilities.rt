@@ -8,11 +8,13 @@ ghost use Rattle.lsp_types.specs.Offers.{NumberOr, Offered, Options};
 ghost use Rattle.lsp_types.specs.Reads.{Beside, IsObject, IsWithin, NoneReads, Optional, Required, ◌and◌};
 
 use crate::json::{
-    FromJson, Members, Misfit, Object, ToJson, fitting, number_within, write_member, write_some,
+    FromJson, KnownMembers, Members, Misfit, ToJson, fitting, number_within, write_member,
+    write_some, write_with,
 };
-use lsp_json::{JsonRef, JsonWriteError, JsonWriter};
+use lsp_json::JsonRef;
+use lsp_json_write::JsonSink;
 use serde_json::Value;
-use std::alloc::{AllocError, Global};
+use std::alloc::Global;
 
 /// What a server can do (LSP 3.17, "ServerCapabilities"). `more` has the members without a field.
 #[derive(Drop)]
@@ -178,9 +180,8 @@ impl Default for ServerCapabilities {
     }
 }
 
-impl ToJson for ServerCapabilities {
-    ghost stands = { λ it. object_with (
-        (codes "callHierarchyProvider", option_map ⟦<bool as ToJson>⟧.stands it.call_hierarchy_provider)
+impl KnownMembers for ServerCapabilities {
+    ghost known = { λ it. (codes "callHierarchyProvider", option_map ⟦<bool as ToJson>⟧.stands it.call_hierarchy_provider)
         ∷ (codes "codeActionProvider", option_map ⟦<CodeActionOptions as ToJson>⟧.stands it.code_action_provider)
         ∷ (codes "codeLensProvider", option_map ⟦<CodeLensOptions as ToJson>⟧.stands it.code_lens_provider)
         ∷ (codes "colorProvider", option_map ⟦<bool as ToJson>⟧.stands it.color_provider)
@@ -214,206 +215,98 @@ impl ToJson for ServerCapabilities {
         ∷ (codes "typeDefinitionProvider", option_map ⟦<bool as ToJson>⟧.stands it.type_definition_provider)
         ∷ (codes "typeHierarchyProvider", option_map ⟦<bool as ToJson>⟧.stands it.type_hierarchy_provider)
         ∷ (codes "workspace", option_map ⟦<WorkspaceOptions as ToJson>⟧.stands it.workspace)
-        ∷ (codes "workspaceSymbolProvider", option_map ⟦<bool as ToJson>⟧.stands it.workspace_symbol_provider) ∷ []) (option_map view it.more) };
+        ∷ (codes "workspaceSymbolProvider", option_map ⟦<bool as ToJson>⟧.stands it.workspace_symbol_provider) ∷ [] };
 
-    fn to_json(&self, alloc: Global) -> Result<Value, AllocError> {
-        Object::new(alloc)
-            .some("callHierarchyProvider", &self.call_hierarchy_provider)
-            .some("codeActionProvider", &self.code_action_provider)
-            .some("codeLensProvider", &self.code_lens_provider)
-            .some("colorProvider", &self.color_provider)
-            .some("completionProvider", &self.completion_provider)
-            .some("declarationProvider", &self.declaration_provider)
-            .some("definitionProvider", &self.definition_provider)
-            .some("diagnosticProvider", &self.diagnostic_provider)
-            .some(
-                "documentFormattingProvider",
-                &self.document_formatting_provider,
-            )
-            .some(
-                "documentHighlightProvider",
-                &self.document_highlight_provider,
-            )
-            .some("documentLinkProvider", &self.document_link_provider)
-            .some(
-                "documentOnTypeFormattingProvider",
-                &self.document_on_type_formatting_provider,
-            )
-            .some(
-                "documentRangeFormattingProvider",
-                &self.document_range_formatting_provider,
-            )
-            .some("documentSymbolProvider", &self.document_symbol_provider)
-            .some("executeCommandProvider", &self.execute_command_provider)
-            .some("experimental", &self.experimental)
-            .some("foldingRangeProvider", &self.folding_range_provider)
-            .some("hoverProvider", &self.hover_provider)
-            .some("implementationProvider", &self.implementation_provider)
-            .some("inlayHintProvider", &self.inlay_hint_provider)
-            .some("inlineValueProvider", &self.inline_value_provider)
-            .some(
-                "linkedEditingRangeProvider",
-                &self.linked_editing_range_provider,
-            )
-            .some("monikerProvider", &self.moniker_provider)
-            .some("notebookDocumentSync", &self.notebook_document_sync)
-            .some("positionEncoding", &self.position_encoding)
-            .some("referencesProvider", &self.references_provider)
-            .some("renameProvider", &self.rename_provider)
-            .some("selectionRangeProvider", &self.selection_range_provider)
-            .some("semanticTokensProvider", &self.semantic_tokens_provider)
-            .some("signatureHelpProvider", &self.signature_help_provider)
-            .some("textDocumentSync", &self.text_document_sync)
-            .some("typeDefinitionProvider", &self.type_definition_provider)
-            .some("typeHierarchyProvider", &self.type_hierarchy_provider)
-            .some("workspace", &self.workspace)
-            .some("workspaceSymbolProvider", &self.workspace_symbol_provider)
-            .rest(&self.more)
-            .end()
-    }
-
-    fn write_json(&self, alloc: Global, out: &mut JsonWriter) -> Result<(), JsonWriteError> {
-        if self.more.is_some() {
-            let tree = self.to_json(alloc)?;
-            return out.value(&tree);
-        }
+    fn write_known<S: JsonSink>(&self, out: &mut S) -> Result<(), S::Error> {
         out.begin_object()?;
+        write_some(out, "callHierarchyProvider", &self.call_hierarchy_provider)?;
+        write_some(out, "codeActionProvider", &self.code_action_provider)?;
+        write_some(out, "codeLensProvider", &self.code_lens_provider)?;
+        write_some(out, "colorProvider", &self.color_provider)?;
+        write_some(out, "completionProvider", &self.completion_provider)?;
+        write_some(out, "declarationProvider", &self.declaration_provider)?;
+        write_some(out, "definitionProvider", &self.definition_provider)?;
+        write_some(out, "diagnosticProvider", &self.diagnostic_provider)?;
         write_some(
-            alloc,
-            out,
-            "callHierarchyProvider",
-            &self.call_hierarchy_provider,
-        )?;
-        write_some(alloc, out, "codeActionProvider", &self.code_action_provider)?;
-        write_some(alloc, out, "codeLensProvider", &self.code_lens_provider)?;
-        write_some(alloc, out, "colorProvider", &self.color_provider)?;
-        write_some(alloc, out, "completionProvider", &self.completion_provider)?;
-        write_some(
-            alloc,
-            out,
-            "declarationProvider",
-            &self.declaration_provider,
-        )?;
-        write_some(alloc, out, "definitionProvider", &self.definition_provider)?;
-        write_some(alloc, out, "diagnosticProvider", &self.diagnostic_provider)?;
-        write_some(
-            alloc,
             out,
             "documentFormattingProvider",
             &self.document_formatting_provider,
         )?;
         write_some(
-            alloc,
             out,
             "documentHighlightProvider",
             &self.document_highlight_provider,
         )?;
+        write_some(out, "documentLinkProvider", &self.document_link_provider)?;
         write_some(
-            alloc,
-            out,
-            "documentLinkProvider",
-            &self.document_link_provider,
-        )?;
-        write_some(
-            alloc,
             out,
             "documentOnTypeFormattingProvider",
             &self.document_on_type_formatting_provider,
         )?;
         write_some(
-            alloc,
             out,
             "documentRangeFormattingProvider",
             &self.document_range_formatting_provider,
         )?;
         write_some(
-            alloc,
             out,
             "documentSymbolProvider",
             &self.document_symbol_provider,
         )?;
         write_some(
-            alloc,
             out,
             "executeCommandProvider",
             &self.execute_command_provider,
         )?;
-        write_some(alloc, out, "experimental", &self.experimental)?;
+        write_some(out, "experimental", &self.experimental)?;
+        write_some(out, "foldingRangeProvider", &self.folding_range_provider)?;
+        write_some(out, "hoverProvider", &self.hover_provider)?;
+        write_some(out, "implementationProvider", &self.implementation_provider)?;
+        write_some(out, "inlayHintProvider", &self.inlay_hint_provider)?;
+        write_some(out, "inlineValueProvider", &self.inline_value_provider)?;
         write_some(
-            alloc,
-            out,
-            "foldingRangeProvider",
-            &self.folding_range_provider,
-        )?;
-        write_some(alloc, out, "hoverProvider", &self.hover_provider)?;
-        write_some(
-            alloc,
-            out,
-            "implementationProvider",
-            &self.implementation_provider,
-        )?;
-        write_some(alloc, out, "inlayHintProvider", &self.inlay_hint_provider)?;
-        write_some(
-            alloc,
-            out,
-            "inlineValueProvider",
-            &self.inline_value_provider,
-        )?;
-        write_some(
-            alloc,
             out,
             "linkedEditingRangeProvider",
             &self.linked_editing_range_provider,
         )?;
-        write_some(alloc, out, "monikerProvider", &self.moniker_provider)?;
+        write_some(out, "monikerProvider", &self.moniker_provider)?;
+        write_some(out, "notebookDocumentSync", &self.notebook_document_sync)?;
+        write_some(out, "positionEncoding", &self.position_encoding)?;
+        write_some(out, "referencesProvider", &self.references_provider)?;
+        write_some(out, "renameProvider", &self.rename_provider)?;
         write_some(
-            alloc,
-            out,
-            "notebookDocumentSync",
-            &self.notebook_document_sync,
-        )?;
-        write_some(alloc, out, "positionEncoding", &self.position_encoding)?;
-        write_some(alloc, out, "referencesProvider", &self.references_provider)?;
-        write_some(alloc, out, "renameProvider", &self.rename_provider)?;
-        write_some(
-            alloc,
             out,
             "selectionRangeProvider",
             &self.selection_range_provider,
         )?;
         write_some(
-            alloc,
             out,
             "semanticTokensProvider",
             &self.semantic_tokens_provider,
         )?;
+        write_some(out, "signatureHelpProvider", &self.signature_help_provider)?;
+        write_some(out, "textDocumentSync", &self.text_document_sync)?;
         write_some(
-            alloc,
-            out,
-            "signatureHelpProvider",
-            &self.signature_help_provider,
-        )?;
-        write_some(alloc, out, "textDocumentSync", &self.text_document_sync)?;
-        write_some(
-            alloc,
             out,
             "typeDefinitionProvider",
             &self.type_definition_provider,
         )?;
+        write_some(out, "typeHierarchyProvider", &self.type_hierarchy_provider)?;
+        write_some(out, "workspace", &self.workspace)?;
         write_some(
-            alloc,
-            out,
-            "typeHierarchyProvider",
-            &self.type_hierarchy_provider,
-        )?;
-        write_some(alloc, out, "workspace", &self.workspace)?;
-        write_some(
-            alloc,
             out,
             "workspaceSymbolProvider",
             &self.workspace_symbol_provider,
         )?;
         out.end_object()
+    }
+}
+
+impl ToJson for ServerCapabilities {
+    ghost stands = { λ it. object_with (⟦<ServerCapabilities as KnownMembers>⟧.known it) (option_map view it.more) };
+
+    fn write_json<S: JsonSink>(&self, out: &mut S) -> Result<(), S::Error> {
+        write_with(out, self, &self.more)
     }
 }
 
@@ -629,12 +522,8 @@ impl TextDocumentSyncKind {
 impl ToJson for TextDocumentSyncKind {
     ghost stands = { λ it. number (unsigned it.0) };
 
-    fn to_json(&self, alloc: Global) -> Result<Value, AllocError> {
-        self.0.to_json(alloc)
-    }
-
-    fn write_json(&self, alloc: Global, out: &mut JsonWriter) -> Result<(), JsonWriteError> {
-        self.0.write_json(alloc, out)
+    fn write_json<S: JsonSink>(&self, out: &mut S) -> Result<(), S::Error> {
+        self.0.write_json(out)
     }
 }
 
@@ -719,23 +608,13 @@ impl ToJson for TextDocumentSyncOptions {
         ∷ (codes "willSave", option_map ⟦<bool as ToJson>⟧.stands it.will_save)
         ∷ (codes "willSaveWaitUntil", option_map ⟦<bool as ToJson>⟧.stands it.will_save_wait_until) ∷ []) };
 
-    fn to_json(&self, alloc: Global) -> Result<Value, AllocError> {
-        Object::new(alloc)
-            .some("change", &self.change)
-            .some("openClose", &self.open_close)
-            .some("save", &self.save)
-            .some("willSave", &self.will_save)
-            .some("willSaveWaitUntil", &self.will_save_wait_until)
-            .end()
-    }
-
-    fn write_json(&self, alloc: Global, out: &mut JsonWriter) -> Result<(), JsonWriteError> {
+    fn write_json<S: JsonSink>(&self, out: &mut S) -> Result<(), S::Error> {
         out.begin_object()?;
-        write_some(alloc, out, "change", &self.change)?;
-        write_some(alloc, out, "openClose", &self.open_close)?;
-        write_some(alloc, out, "save", &self.save)?;
-        write_some(alloc, out, "willSave", &self.will_save)?;
-        write_some(alloc, out, "willSaveWaitUntil", &self.will_save_wait_until)?;
+        write_some(out, "change", &self.change)?;
+        write_some(out, "openClose", &self.open_close)?;
+        write_some(out, "save", &self.save)?;
+        write_some(out, "willSave", &self.will_save)?;
+        write_some(out, "willSaveWaitUntil", &self.will_save_wait_until)?;
         out.end_object()
     }
 }
@@ -796,15 +675,9 @@ impl ToJson for SaveOptions {
     ghost stands = { λ it. object_of (
         (codes "includeText", option_map ⟦<bool as ToJson>⟧.stands it.include_text) ∷ []) };
 
-    fn to_json(&self, alloc: Global) -> Result<Value, AllocError> {
-        Object::new(alloc)
-            .some("includeText", &self.include_text)
-            .end()
-    }
-
-    fn write_json(&self, alloc: Global, out: &mut JsonWriter) -> Result<(), JsonWriteError> {
+    fn write_json<S: JsonSink>(&self, out: &mut S) -> Result<(), S::Error> {
         out.begin_object()?;
-        write_some(alloc, out, "includeText", &self.include_text)?;
+        write_some(out, "includeText", &self.include_text)?;
         out.end_object()
     }
 }
@@ -870,28 +743,13 @@ impl ToJson for CompletionOptions {
         ∷ (codes "triggerCharacters", option_map ⟦<Vec<String> as ToJson>⟧.stands it.trigger_characters)
         ∷ (codes "workDoneProgress", option_map ⟦<bool as ToJson>⟧.stands it.work_done_progress) ∷ []) };
 
-    fn to_json(&self, alloc: Global) -> Result<Value, AllocError> {
-        Object::new(alloc)
-            .some("allCommitCharacters", &self.all_commit_characters)
-            .some("completionItem", &self.completion_item)
-            .some("resolveProvider", &self.resolve_provider)
-            .some("triggerCharacters", &self.trigger_characters)
-            .some("workDoneProgress", &self.work_done_progress)
-            .end()
-    }
-
-    fn write_json(&self, alloc: Global, out: &mut JsonWriter) -> Result<(), JsonWriteError> {
+    fn write_json<S: JsonSink>(&self, out: &mut S) -> Result<(), S::Error> {
         out.begin_object()?;
-        write_some(
-            alloc,
-            out,
-            "allCommitCharacters",
-            &self.all_commit_characters,
-        )?;
-        write_some(alloc, out, "completionItem", &self.completion_item)?;
-        write_some(alloc, out, "resolveProvider", &self.resolve_provider)?;
-        write_some(alloc, out, "triggerCharacters", &self.trigger_characters)?;
-        write_some(alloc, out, "workDoneProgress", &self.work_done_progress)?;
+        write_some(out, "allCommitCharacters", &self.all_commit_characters)?;
+        write_some(out, "completionItem", &self.completion_item)?;
+        write_some(out, "resolveProvider", &self.resolve_provider)?;
+        write_some(out, "triggerCharacters", &self.trigger_characters)?;
+        write_some(out, "workDoneProgress", &self.work_done_progress)?;
         out.end_object()
     }
 }
@@ -958,20 +816,9 @@ impl ToJson for CompletionItemOptions {
     ghost stands = { λ it. object_of (
         (codes "labelDetailsSupport", option_map ⟦<bool as ToJson>⟧.stands it.label_details_support) ∷ []) };
 
-    fn to_json(&self, alloc: Global) -> Result<Value, AllocError> {
-        Object::new(alloc)
-            .some("labelDetailsSupport", &self.label_details_support)
-            .end()
-    }
-
-    fn write_json(&self, alloc: Global, out: &mut JsonWriter) -> Result<(), JsonWriteError> {
+    fn write_json<S: JsonSink>(&self, out: &mut S) -> Result<(), S::Error> {
         out.begin_object()?;
-        write_some(
-            alloc,
-            out,
-            "labelDetailsSupport",
-            &self.label_details_support,
-        )?;
+        write_some(out, "labelDetailsSupport", &self.label_details_support)?;
         out.end_object()
     }
 }
@@ -1032,24 +879,11 @@ impl ToJson for SignatureHelpOptions {
         ∷ (codes "triggerCharacters", option_map ⟦<Vec<String> as ToJson>⟧.stands it.trigger_characters)
         ∷ (codes "workDoneProgress", option_map ⟦<bool as ToJson>⟧.stands it.work_done_progress) ∷ []) };
 
-    fn to_json(&self, alloc: Global) -> Result<Value, AllocError> {
-        Object::new(alloc)
-            .some("retriggerCharacters", &self.retrigger_characters)
-            .some("triggerCharacters", &self.trigger_characters)
-            .some("workDoneProgress", &self.work_done_progress)
-            .end()
-    }
-
-    fn write_json(&self, alloc: Global, out: &mut JsonWriter) -> Result<(), JsonWriteError> {
+    fn write_json<S: JsonSink>(&self, out: &mut S) -> Result<(), S::Error> {
         out.begin_object()?;
-        write_some(
-            alloc,
-            out,
-            "retriggerCharacters",
-            &self.retrigger_characters,
-        )?;
-        write_some(alloc, out, "triggerCharacters", &self.trigger_characters)?;
-        write_some(alloc, out, "workDoneProgress", &self.work_done_progress)?;
+        write_some(out, "retriggerCharacters", &self.retrigger_characters)?;
+        write_some(out, "triggerCharacters", &self.trigger_characters)?;
+        write_some(out, "workDoneProgress", &self.work_done_progress)?;
         out.end_object()
     }
 }
@@ -1116,19 +950,11 @@ impl ToJson for CodeActionOptions {
         ∷ (codes "resolveProvider", option_map ⟦<bool as ToJson>⟧.stands it.resolve_provider)
         ∷ (codes "workDoneProgress", option_map ⟦<bool as ToJson>⟧.stands it.work_done_progress) ∷ []) };
 
-    fn to_json(&self, alloc: Global) -> Result<Value, AllocError> {
-        Object::new(alloc)
-            .some("codeActionKinds", &self.code_action_kinds)
-            .some("resolveProvider", &self.resolve_provider)
-            .some("workDoneProgress", &self.work_done_progress)
-            .end()
-    }
-
-    fn write_json(&self, alloc: Global, out: &mut JsonWriter) -> Result<(), JsonWriteError> {
+    fn write_json<S: JsonSink>(&self, out: &mut S) -> Result<(), S::Error> {
         out.begin_object()?;
-        write_some(alloc, out, "codeActionKinds", &self.code_action_kinds)?;
-        write_some(alloc, out, "resolveProvider", &self.resolve_provider)?;
-        write_some(alloc, out, "workDoneProgress", &self.work_done_progress)?;
+        write_some(out, "codeActionKinds", &self.code_action_kinds)?;
+        write_some(out, "resolveProvider", &self.resolve_provider)?;
+        write_some(out, "workDoneProgress", &self.work_done_progress)?;
         out.end_object()
     }
 }
@@ -1190,17 +1016,10 @@ impl ToJson for CodeLensOptions {
         (codes "resolveProvider", option_map ⟦<bool as ToJson>⟧.stands it.resolve_provider)
         ∷ (codes "workDoneProgress", option_map ⟦<bool as ToJson>⟧.stands it.work_done_progress) ∷ []) };
 
-    fn to_json(&self, alloc: Global) -> Result<Value, AllocError> {
-        Object::new(alloc)
-            .some("resolveProvider", &self.resolve_provider)
-            .some("workDoneProgress", &self.work_done_progress)
-            .end()
-    }
-
-    fn write_json(&self, alloc: Global, out: &mut JsonWriter) -> Result<(), JsonWriteError> {
+    fn write_json<S: JsonSink>(&self, out: &mut S) -> Result<(), S::Error> {
         out.begin_object()?;
-        write_some(alloc, out, "resolveProvider", &self.resolve_provider)?;
-        write_some(alloc, out, "workDoneProgress", &self.work_done_progress)?;
+        write_some(out, "resolveProvider", &self.resolve_provider)?;
+        write_some(out, "workDoneProgress", &self.work_done_progress)?;
         out.end_object()
     }
 }
@@ -1259,17 +1078,10 @@ impl ToJson for DocumentLinkOptions {
         (codes "resolveProvider", option_map ⟦<bool as ToJson>⟧.stands it.resolve_provider)
         ∷ (codes "workDoneProgress", option_map ⟦<bool as ToJson>⟧.stands it.work_done_progress) ∷ []) };
 
-    fn to_json(&self, alloc: Global) -> Result<Value, AllocError> {
-        Object::new(alloc)
-            .some("resolveProvider", &self.resolve_provider)
-            .some("workDoneProgress", &self.work_done_progress)
-            .end()
-    }
-
-    fn write_json(&self, alloc: Global, out: &mut JsonWriter) -> Result<(), JsonWriteError> {
+    fn write_json<S: JsonSink>(&self, out: &mut S) -> Result<(), S::Error> {
         out.begin_object()?;
-        write_some(alloc, out, "resolveProvider", &self.resolve_provider)?;
-        write_some(alloc, out, "workDoneProgress", &self.work_done_progress)?;
+        write_some(out, "resolveProvider", &self.resolve_provider)?;
+        write_some(out, "workDoneProgress", &self.work_done_progress)?;
         out.end_object()
     }
 }
@@ -1328,27 +1140,10 @@ impl ToJson for DocumentOnTypeFormattingOptions {
         (codes "firstTriggerCharacter", Some (⟦<String as ToJson>⟧.stands it.first_trigger_character))
         ∷ (codes "moreTriggerCharacter", option_map ⟦<Vec<String> as ToJson>⟧.stands it.more_trigger_character) ∷ []) };
 
-    fn to_json(&self, alloc: Global) -> Result<Value, AllocError> {
-        Object::new(alloc)
-            .member("firstTriggerCharacter", &self.first_trigger_character)
-            .some("moreTriggerCharacter", &self.more_trigger_character)
-            .end()
-    }
-
-    fn write_json(&self, alloc: Global, out: &mut JsonWriter) -> Result<(), JsonWriteError> {
+    fn write_json<S: JsonSink>(&self, out: &mut S) -> Result<(), S::Error> {
         out.begin_object()?;
-        write_member(
-            alloc,
-            out,
-            "firstTriggerCharacter",
-            &self.first_trigger_character,
-        )?;
-        write_some(
-            alloc,
-            out,
-            "moreTriggerCharacter",
-            &self.more_trigger_character,
-        )?;
+        write_member(out, "firstTriggerCharacter", &self.first_trigger_character)?;
+        write_some(out, "moreTriggerCharacter", &self.more_trigger_character)?;
         out.end_object()
     }
 }
@@ -1410,17 +1205,10 @@ impl ToJson for RenameOptions {
         (codes "prepareProvider", option_map ⟦<bool as ToJson>⟧.stands it.prepare_provider)
         ∷ (codes "workDoneProgress", option_map ⟦<bool as ToJson>⟧.stands it.work_done_progress) ∷ []) };
 
-    fn to_json(&self, alloc: Global) -> Result<Value, AllocError> {
-        Object::new(alloc)
-            .some("prepareProvider", &self.prepare_provider)
-            .some("workDoneProgress", &self.work_done_progress)
-            .end()
-    }
-
-    fn write_json(&self, alloc: Global, out: &mut JsonWriter) -> Result<(), JsonWriteError> {
+    fn write_json<S: JsonSink>(&self, out: &mut S) -> Result<(), S::Error> {
         out.begin_object()?;
-        write_some(alloc, out, "prepareProvider", &self.prepare_provider)?;
-        write_some(alloc, out, "workDoneProgress", &self.work_done_progress)?;
+        write_some(out, "prepareProvider", &self.prepare_provider)?;
+        write_some(out, "workDoneProgress", &self.work_done_progress)?;
         out.end_object()
     }
 }
@@ -1479,17 +1267,10 @@ impl ToJson for ExecuteCommandOptions {
         (codes "commands", Some (⟦<Vec<String> as ToJson>⟧.stands it.commands))
         ∷ (codes "workDoneProgress", option_map ⟦<bool as ToJson>⟧.stands it.work_done_progress) ∷ []) };
 
-    fn to_json(&self, alloc: Global) -> Result<Value, AllocError> {
-        Object::new(alloc)
-            .member("commands", &self.commands)
-            .some("workDoneProgress", &self.work_done_progress)
-            .end()
-    }
-
-    fn write_json(&self, alloc: Global, out: &mut JsonWriter) -> Result<(), JsonWriteError> {
+    fn write_json<S: JsonSink>(&self, out: &mut S) -> Result<(), S::Error> {
         out.begin_object()?;
-        write_member(alloc, out, "commands", &self.commands)?;
-        write_some(alloc, out, "workDoneProgress", &self.work_done_progress)?;
+        write_member(out, "commands", &self.commands)?;
+        write_some(out, "workDoneProgress", &self.work_done_progress)?;
         out.end_object()
     }
 }
@@ -1558,21 +1339,12 @@ impl ToJson for SemanticTokensOptions {
         ∷ (codes "range", option_map ⟦<bool as ToJson>⟧.stands it.range)
         ∷ (codes "workDoneProgress", option_map ⟦<bool as ToJson>⟧.stands it.work_done_progress) ∷ []) };
 
-    fn to_json(&self, alloc: Global) -> Result<Value, AllocError> {
-        Object::new(alloc)
-            .some("full", &self.full)
-            .member("legend", &self.legend)
-            .some("range", &self.range)
-            .some("workDoneProgress", &self.work_done_progress)
-            .end()
-    }
-
-    fn write_json(&self, alloc: Global, out: &mut JsonWriter) -> Result<(), JsonWriteError> {
+    fn write_json<S: JsonSink>(&self, out: &mut S) -> Result<(), S::Error> {
         out.begin_object()?;
-        write_some(alloc, out, "full", &self.full)?;
-        write_member(alloc, out, "legend", &self.legend)?;
-        write_some(alloc, out, "range", &self.range)?;
-        write_some(alloc, out, "workDoneProgress", &self.work_done_progress)?;
+        write_some(out, "full", &self.full)?;
+        write_member(out, "legend", &self.legend)?;
+        write_some(out, "range", &self.range)?;
+        write_some(out, "workDoneProgress", &self.work_done_progress)?;
         out.end_object()
     }
 }
@@ -1630,13 +1402,9 @@ impl ToJson for SemanticTokensFullOptions {
     ghost stands = { λ it. object_of (
         (codes "delta", option_map ⟦<bool as ToJson>⟧.stands it.delta) ∷ []) };
 
-    fn to_json(&self, alloc: Global) -> Result<Value, AllocError> {
-        Object::new(alloc).some("delta", &self.delta).end()
-    }
-
-    fn write_json(&self, alloc: Global, out: &mut JsonWriter) -> Result<(), JsonWriteError> {
+    fn write_json<S: JsonSink>(&self, out: &mut S) -> Result<(), S::Error> {
         out.begin_object()?;
-        write_some(alloc, out, "delta", &self.delta)?;
+        write_some(out, "delta", &self.delta)?;
         out.end_object()
     }
 }
@@ -1670,17 +1438,10 @@ impl ToJson for SemanticTokensLegend {
         (codes "tokenModifiers", Some (⟦<Vec<String> as ToJson>⟧.stands it.token_modifiers))
         ∷ (codes "tokenTypes", Some (⟦<Vec<String> as ToJson>⟧.stands it.token_types)) ∷ []) };
 
-    fn to_json(&self, alloc: Global) -> Result<Value, AllocError> {
-        Object::new(alloc)
-            .member("tokenModifiers", &self.token_modifiers)
-            .member("tokenTypes", &self.token_types)
-            .end()
-    }
-
-    fn write_json(&self, alloc: Global, out: &mut JsonWriter) -> Result<(), JsonWriteError> {
+    fn write_json<S: JsonSink>(&self, out: &mut S) -> Result<(), S::Error> {
         out.begin_object()?;
-        write_member(alloc, out, "tokenModifiers", &self.token_modifiers)?;
-        write_member(alloc, out, "tokenTypes", &self.token_types)?;
+        write_member(out, "tokenModifiers", &self.token_modifiers)?;
+        write_member(out, "tokenTypes", &self.token_types)?;
         out.end_object()
     }
 }
@@ -1749,31 +1510,12 @@ impl ToJson for DiagnosticOptions {
         ∷ (codes "workDoneProgress", option_map ⟦<bool as ToJson>⟧.stands it.work_done_progress)
         ∷ (codes "workspaceDiagnostics", Some (⟦<bool as ToJson>⟧.stands it.workspace_diagnostics)) ∷ []) };
 
-    fn to_json(&self, alloc: Global) -> Result<Value, AllocError> {
-        Object::new(alloc)
-            .some("identifier", &self.identifier)
-            .member("interFileDependencies", &self.inter_file_dependencies)
-            .some("workDoneProgress", &self.work_done_progress)
-            .member("workspaceDiagnostics", &self.workspace_diagnostics)
-            .end()
-    }
-
-    fn write_json(&self, alloc: Global, out: &mut JsonWriter) -> Result<(), JsonWriteError> {
+    fn write_json<S: JsonSink>(&self, out: &mut S) -> Result<(), S::Error> {
         out.begin_object()?;
-        write_some(alloc, out, "identifier", &self.identifier)?;
-        write_member(
-            alloc,
-            out,
-            "interFileDependencies",
-            &self.inter_file_dependencies,
-        )?;
-        write_some(alloc, out, "workDoneProgress", &self.work_done_progress)?;
-        write_member(
-            alloc,
-            out,
-            "workspaceDiagnostics",
-            &self.workspace_diagnostics,
-        )?;
+        write_some(out, "identifier", &self.identifier)?;
+        write_member(out, "interFileDependencies", &self.inter_file_dependencies)?;
+        write_some(out, "workDoneProgress", &self.work_done_progress)?;
+        write_member(out, "workspaceDiagnostics", &self.workspace_diagnostics)?;
         out.end_object()
     }
 }
@@ -1841,17 +1583,10 @@ impl ToJson for WorkspaceOptions {
         (codes "fileOperations", option_map ⟦<Value as ToJson>⟧.stands it.file_operations)
         ∷ (codes "workspaceFolders", option_map ⟦<WorkspaceFoldersServerCapabilities as ToJson>⟧.stands it.workspace_folders) ∷ []) };
 
-    fn to_json(&self, alloc: Global) -> Result<Value, AllocError> {
-        Object::new(alloc)
-            .some("fileOperations", &self.file_operations)
-            .some("workspaceFolders", &self.workspace_folders)
-            .end()
-    }
-
-    fn write_json(&self, alloc: Global, out: &mut JsonWriter) -> Result<(), JsonWriteError> {
+    fn write_json<S: JsonSink>(&self, out: &mut S) -> Result<(), S::Error> {
         out.begin_object()?;
-        write_some(alloc, out, "fileOperations", &self.file_operations)?;
-        write_some(alloc, out, "workspaceFolders", &self.workspace_folders)?;
+        write_some(out, "fileOperations", &self.file_operations)?;
+        write_some(out, "workspaceFolders", &self.workspace_folders)?;
         out.end_object()
     }
 }
@@ -1910,22 +1645,10 @@ impl ToJson for WorkspaceFoldersServerCapabilities {
         (codes "changeNotifications", option_map ⟦<ChangeNotifications as ToJson>⟧.stands it.change_notifications)
         ∷ (codes "supported", option_map ⟦<bool as ToJson>⟧.stands it.supported) ∷ []) };
 
-    fn to_json(&self, alloc: Global) -> Result<Value, AllocError> {
-        Object::new(alloc)
-            .some("changeNotifications", &self.change_notifications)
-            .some("supported", &self.supported)
-            .end()
-    }
-
-    fn write_json(&self, alloc: Global, out: &mut JsonWriter) -> Result<(), JsonWriteError> {
+    fn write_json<S: JsonSink>(&self, out: &mut S) -> Result<(), S::Error> {
         out.begin_object()?;
-        write_some(
-            alloc,
-            out,
-            "changeNotifications",
-            &self.change_notifications,
-        )?;
-        write_some(alloc, out, "supported", &self.supported)?;
+        write_some(out, "changeNotifications", &self.change_notifications)?;
+        write_some(out, "supported", &self.supported)?;
         out.end_object()
     }
 }
@@ -1974,17 +1697,10 @@ impl ToJson for ChangeNotifications {
       | Id it ↦ ⟦<String as ToJson>⟧.stands it
     ] };
 
-    fn to_json(&self, alloc: Global) -> Result<Value, AllocError> {
+    fn write_json<S: JsonSink>(&self, out: &mut S) -> Result<(), S::Error> {
         match self {
-            ChangeNotifications::Wanted(it) => it.to_json(alloc),
-            ChangeNotifications::Id(it) => it.to_json(alloc),
-        }
-    }
-
-    fn write_json(&self, alloc: Global, out: &mut JsonWriter) -> Result<(), JsonWriteError> {
-        match self {
-            ChangeNotifications::Wanted(it) => it.write_json(alloc, out),
-            ChangeNotifications::Id(it) => it.write_json(alloc, out),
+            ChangeNotifications::Wanted(it) => it.write_json(out),
+            ChangeNotifications::Id(it) => it.write_json(out),
         }
     }
 }

@@ -5,9 +5,9 @@ ghost use Rattle.serde_json.specs.Find.{as_str, of_integer};
 ghost use Rattle.lsp_types.specs.Reads.{IsInt};
 
 use crate::json::{FromJson, Misfit, ToJson, fitting};
-use lsp_json::{JsonRef, JsonWriteError, JsonWriter};
-use serde_json::Value;
-use std::alloc::{AllocError, Global};
+use lsp_json::JsonRef;
+use lsp_json_write::JsonSink;
+use std::alloc::Global;
 
 /// A number or a text, such as the code of a diagnostic or a token of progress (LSP 3.17, "Diagnostic" and
 /// "ProgressToken").
@@ -24,17 +24,10 @@ impl ToJson for NumberOrString {
 
     ghost stands = { elim [ Number z ↦ number (of_integer z) | String text ↦ string (string_bytes text) ] };
 
-    fn to_json(&self, alloc: Global) -> Result<Value, AllocError> {
+    fn write_json<S: JsonSink>(&self, out: &mut S) -> Result<(), S::Error> {
         match self {
-            NumberOrString::Number(number) => number.to_json(alloc),
-            NumberOrString::String(text) => text.to_json(alloc),
-        }
-    }
-
-    fn write_json(&self, alloc: Global, out: &mut JsonWriter) -> Result<(), JsonWriteError> {
-        match self {
-            NumberOrString::Number(number) => number.write_json(alloc, out),
-            NumberOrString::String(text) => text.write_json(alloc, out),
+            NumberOrString::Number(number) => number.write_json(out),
+            NumberOrString::String(text) => text.write_json(out),
         }
     }
 }
@@ -69,14 +62,7 @@ impl ToJson for MarkupKind {
 
     ghost stands = { elim [ PlainText ↦ string (codes "plaintext") | Markdown ↦ string (codes "markdown") ] };
 
-    fn to_json(&self, alloc: Global) -> Result<Value, AllocError> {
-        match self {
-            MarkupKind::PlainText => Value::try_from_str(alloc, "plaintext"),
-            MarkupKind::Markdown => Value::try_from_str(alloc, "markdown"),
-        }
-    }
-
-    fn write_json(&self, _alloc: Global, out: &mut JsonWriter) -> Result<(), JsonWriteError> {
+    fn write_json<S: JsonSink>(&self, out: &mut S) -> Result<(), S::Error> {
         match self {
             MarkupKind::PlainText => out.str("plaintext"),
             MarkupKind::Markdown => out.str("markdown"),

@@ -10,14 +10,16 @@ use crate::documents::TextDocumentIdentifier;
 use crate::edits::TextEdit;
 use crate::hovers::Documentation;
 use crate::json::{
-    FromJson, Members, Misfit, Object, ToJson, fitting, number_within, write_member, write_some,
+    FromJson, KnownMembers, Members, Misfit, ToJson, fitting, number_within, write_member,
+    write_some, write_with,
 };
 use crate::progress::ProgressToken;
 use crate::workspace::Command;
-use lsp_json::{JsonRef, JsonWriteError, JsonWriter};
+use lsp_json::JsonRef;
+use lsp_json_write::JsonSink;
 use lsp_text::{Position, Range};
 use serde_json::Value;
-use std::alloc::{AllocError, Global};
+use std::alloc::Global;
 
 /// What a completion inserts (LSP 3.17, "CompletionItemKind"). On reading, another number is refused.
 #[derive(Clone, Copy, Drop)]
@@ -79,12 +81,8 @@ impl CompletionItemKind {
 impl ToJson for CompletionItemKind {
     ghost stands = { λ it. number (unsigned it.0) };
 
-    fn to_json(&self, alloc: Global) -> Result<Value, AllocError> {
-        self.0.to_json(alloc)
-    }
-
-    fn write_json(&self, alloc: Global, out: &mut JsonWriter) -> Result<(), JsonWriteError> {
-        self.0.write_json(alloc, out)
+    fn write_json<S: JsonSink>(&self, out: &mut S) -> Result<(), S::Error> {
+        self.0.write_json(out)
     }
 }
 
@@ -113,12 +111,8 @@ impl InsertTextFormat {
 impl ToJson for InsertTextFormat {
     ghost stands = { λ it. number (unsigned it.0) };
 
-    fn to_json(&self, alloc: Global) -> Result<Value, AllocError> {
-        self.0.to_json(alloc)
-    }
-
-    fn write_json(&self, alloc: Global, out: &mut JsonWriter) -> Result<(), JsonWriteError> {
-        self.0.write_json(alloc, out)
+    fn write_json<S: JsonSink>(&self, out: &mut S) -> Result<(), S::Error> {
+        self.0.write_json(out)
     }
 }
 
@@ -145,12 +139,8 @@ impl CompletionItemTag {
 impl ToJson for CompletionItemTag {
     ghost stands = { λ it. number (unsigned it.0) };
 
-    fn to_json(&self, alloc: Global) -> Result<Value, AllocError> {
-        self.0.to_json(alloc)
-    }
-
-    fn write_json(&self, alloc: Global, out: &mut JsonWriter) -> Result<(), JsonWriteError> {
-        self.0.write_json(alloc, out)
+    fn write_json<S: JsonSink>(&self, out: &mut S) -> Result<(), S::Error> {
+        self.0.write_json(out)
     }
 }
 
@@ -180,12 +170,8 @@ impl InsertTextMode {
 impl ToJson for InsertTextMode {
     ghost stands = { λ it. number (unsigned it.0) };
 
-    fn to_json(&self, alloc: Global) -> Result<Value, AllocError> {
-        self.0.to_json(alloc)
-    }
-
-    fn write_json(&self, alloc: Global, out: &mut JsonWriter) -> Result<(), JsonWriteError> {
-        self.0.write_json(alloc, out)
+    fn write_json<S: JsonSink>(&self, out: &mut S) -> Result<(), S::Error> {
+        self.0.write_json(out)
     }
 }
 
@@ -231,17 +217,10 @@ impl ToJson for CompletionItemLabelDetails {
         (codes "description", option_map ⟦<String as ToJson>⟧.stands it.description)
         ∷ (codes "detail", option_map ⟦<String as ToJson>⟧.stands it.detail) ∷ []) };
 
-    fn to_json(&self, alloc: Global) -> Result<Value, AllocError> {
-        Object::new(alloc)
-            .some("description", &self.description)
-            .some("detail", &self.detail)
-            .end()
-    }
-
-    fn write_json(&self, alloc: Global, out: &mut JsonWriter) -> Result<(), JsonWriteError> {
+    fn write_json<S: JsonSink>(&self, out: &mut S) -> Result<(), S::Error> {
         out.begin_object()?;
-        write_some(alloc, out, "description", &self.description)?;
-        write_some(alloc, out, "detail", &self.detail)?;
+        write_some(out, "description", &self.description)?;
+        write_some(out, "detail", &self.detail)?;
         out.end_object()
     }
 }
@@ -286,19 +265,11 @@ impl ToJson for InsertReplaceEdit {
         ∷ (codes "newText", Some (⟦<String as ToJson>⟧.stands it.new_text))
         ∷ (codes "replace", Some (⟦<Range as ToJson>⟧.stands it.replace)) ∷ []) };
 
-    fn to_json(&self, alloc: Global) -> Result<Value, AllocError> {
-        Object::new(alloc)
-            .member("insert", &self.insert)
-            .member("newText", &self.new_text)
-            .member("replace", &self.replace)
-            .end()
-    }
-
-    fn write_json(&self, alloc: Global, out: &mut JsonWriter) -> Result<(), JsonWriteError> {
+    fn write_json<S: JsonSink>(&self, out: &mut S) -> Result<(), S::Error> {
         out.begin_object()?;
-        write_member(alloc, out, "insert", &self.insert)?;
-        write_member(alloc, out, "newText", &self.new_text)?;
-        write_member(alloc, out, "replace", &self.replace)?;
+        write_member(out, "insert", &self.insert)?;
+        write_member(out, "newText", &self.new_text)?;
+        write_member(out, "replace", &self.replace)?;
         out.end_object()
     }
 }
@@ -346,17 +317,10 @@ impl ToJson for CompletionTextEdit {
       | Edit it ↦ ⟦<TextEdit as ToJson>⟧.stands it
     ] };
 
-    fn to_json(&self, alloc: Global) -> Result<Value, AllocError> {
+    fn write_json<S: JsonSink>(&self, out: &mut S) -> Result<(), S::Error> {
         match self {
-            CompletionTextEdit::InsertReplace(it) => it.to_json(alloc),
-            CompletionTextEdit::Edit(it) => it.to_json(alloc),
-        }
-    }
-
-    fn write_json(&self, alloc: Global, out: &mut JsonWriter) -> Result<(), JsonWriteError> {
-        match self {
-            CompletionTextEdit::InsertReplace(it) => it.write_json(alloc, out),
-            CompletionTextEdit::Edit(it) => it.write_json(alloc, out),
+            CompletionTextEdit::InsertReplace(it) => it.write_json(out),
+            CompletionTextEdit::Edit(it) => it.write_json(out),
         }
     }
 }
@@ -480,9 +444,8 @@ impl CompletionItem {
     }
 }
 
-impl ToJson for CompletionItem {
-    ghost stands = { λ it. object_with (
-        (codes "additionalTextEdits", option_map ⟦<Vec<TextEdit> as ToJson>⟧.stands it.additional_text_edits)
+impl KnownMembers for CompletionItem {
+    ghost known = { λ it. (codes "additionalTextEdits", option_map ⟦<Vec<TextEdit> as ToJson>⟧.stands it.additional_text_edits)
         ∷ (codes "command", option_map ⟦<Command as ToJson>⟧.stands it.command)
         ∷ (codes "commitCharacters", option_map ⟦<Vec<String> as ToJson>⟧.stands it.commit_characters)
         ∷ (codes "data", option_map ⟦<Value as ToJson>⟧.stands it.«data»)
@@ -500,64 +463,38 @@ impl ToJson for CompletionItem {
         ∷ (codes "sortText", option_map ⟦<String as ToJson>⟧.stands it.sort_text)
         ∷ (codes "tags", option_map ⟦<Vec<CompletionItemTag> as ToJson>⟧.stands it.tags)
         ∷ (codes "textEdit", option_map ⟦<CompletionTextEdit as ToJson>⟧.stands it.text_edit)
-        ∷ (codes "textEditText", option_map ⟦<String as ToJson>⟧.stands it.text_edit_text) ∷ []) (option_map view it.more) };
+        ∷ (codes "textEditText", option_map ⟦<String as ToJson>⟧.stands it.text_edit_text) ∷ [] };
 
-    fn to_json(&self, alloc: Global) -> Result<Value, AllocError> {
-        Object::new(alloc)
-            .some("additionalTextEdits", &self.additional_text_edits)
-            .some("command", &self.command)
-            .some("commitCharacters", &self.commit_characters)
-            .some("data", &self.data)
-            .some("deprecated", &self.deprecated)
-            .some("detail", &self.detail)
-            .some("documentation", &self.documentation)
-            .some("filterText", &self.filter_text)
-            .some("insertText", &self.insert_text)
-            .some("insertTextFormat", &self.insert_text_format)
-            .some("insertTextMode", &self.insert_text_mode)
-            .some("kind", &self.kind)
-            .member("label", &self.label)
-            .some("labelDetails", &self.label_details)
-            .some("preselect", &self.preselect)
-            .some("sortText", &self.sort_text)
-            .some("tags", &self.tags)
-            .some("textEdit", &self.text_edit)
-            .some("textEditText", &self.text_edit_text)
-            .rest(&self.more)
-            .end()
-    }
-
-    fn write_json(&self, alloc: Global, out: &mut JsonWriter) -> Result<(), JsonWriteError> {
-        if self.more.is_some() {
-            let tree = self.to_json(alloc)?;
-            return out.value(&tree);
-        }
+    fn write_known<S: JsonSink>(&self, out: &mut S) -> Result<(), S::Error> {
         out.begin_object()?;
-        write_some(
-            alloc,
-            out,
-            "additionalTextEdits",
-            &self.additional_text_edits,
-        )?;
-        write_some(alloc, out, "command", &self.command)?;
-        write_some(alloc, out, "commitCharacters", &self.commit_characters)?;
-        write_some(alloc, out, "data", &self.data)?;
-        write_some(alloc, out, "deprecated", &self.deprecated)?;
-        write_some(alloc, out, "detail", &self.detail)?;
-        write_some(alloc, out, "documentation", &self.documentation)?;
-        write_some(alloc, out, "filterText", &self.filter_text)?;
-        write_some(alloc, out, "insertText", &self.insert_text)?;
-        write_some(alloc, out, "insertTextFormat", &self.insert_text_format)?;
-        write_some(alloc, out, "insertTextMode", &self.insert_text_mode)?;
-        write_some(alloc, out, "kind", &self.kind)?;
-        write_member(alloc, out, "label", &self.label)?;
-        write_some(alloc, out, "labelDetails", &self.label_details)?;
-        write_some(alloc, out, "preselect", &self.preselect)?;
-        write_some(alloc, out, "sortText", &self.sort_text)?;
-        write_some(alloc, out, "tags", &self.tags)?;
-        write_some(alloc, out, "textEdit", &self.text_edit)?;
-        write_some(alloc, out, "textEditText", &self.text_edit_text)?;
+        write_some(out, "additionalTextEdits", &self.additional_text_edits)?;
+        write_some(out, "command", &self.command)?;
+        write_some(out, "commitCharacters", &self.commit_characters)?;
+        write_some(out, "data", &self.data)?;
+        write_some(out, "deprecated", &self.deprecated)?;
+        write_some(out, "detail", &self.detail)?;
+        write_some(out, "documentation", &self.documentation)?;
+        write_some(out, "filterText", &self.filter_text)?;
+        write_some(out, "insertText", &self.insert_text)?;
+        write_some(out, "insertTextFormat", &self.insert_text_format)?;
+        write_some(out, "insertTextMode", &self.insert_text_mode)?;
+        write_some(out, "kind", &self.kind)?;
+        write_member(out, "label", &self.label)?;
+        write_some(out, "labelDetails", &self.label_details)?;
+        write_some(out, "preselect", &self.preselect)?;
+        write_some(out, "sortText", &self.sort_text)?;
+        write_some(out, "tags", &self.tags)?;
+        write_some(out, "textEdit", &self.text_edit)?;
+        write_some(out, "textEditText", &self.text_edit_text)?;
         out.end_object()
+    }
+}
+
+impl ToJson for CompletionItem {
+    ghost stands = { λ it. object_with (⟦<CompletionItem as KnownMembers>⟧.known it) (option_map view it.more) };
+
+    fn write_json<S: JsonSink>(&self, out: &mut S) -> Result<(), S::Error> {
+        write_with(out, self, &self.more)
     }
 }
 
@@ -691,17 +628,10 @@ impl ToJson for EditRangeWithInsertReplace {
         (codes "insert", Some (⟦<Range as ToJson>⟧.stands it.insert))
         ∷ (codes "replace", Some (⟦<Range as ToJson>⟧.stands it.replace)) ∷ []) };
 
-    fn to_json(&self, alloc: Global) -> Result<Value, AllocError> {
-        Object::new(alloc)
-            .member("insert", &self.insert)
-            .member("replace", &self.replace)
-            .end()
-    }
-
-    fn write_json(&self, alloc: Global, out: &mut JsonWriter) -> Result<(), JsonWriteError> {
+    fn write_json<S: JsonSink>(&self, out: &mut S) -> Result<(), S::Error> {
         out.begin_object()?;
-        write_member(alloc, out, "insert", &self.insert)?;
-        write_member(alloc, out, "replace", &self.replace)?;
+        write_member(out, "insert", &self.insert)?;
+        write_member(out, "replace", &self.replace)?;
         out.end_object()
     }
 }
@@ -743,17 +673,10 @@ impl ToJson for CompletionEditRange {
       | Range it ↦ ⟦<Range as ToJson>⟧.stands it
     ] };
 
-    fn to_json(&self, alloc: Global) -> Result<Value, AllocError> {
+    fn write_json<S: JsonSink>(&self, out: &mut S) -> Result<(), S::Error> {
         match self {
-            CompletionEditRange::InsertReplace(it) => it.to_json(alloc),
-            CompletionEditRange::Range(it) => it.to_json(alloc),
-        }
-    }
-
-    fn write_json(&self, alloc: Global, out: &mut JsonWriter) -> Result<(), JsonWriteError> {
-        match self {
-            CompletionEditRange::InsertReplace(it) => it.write_json(alloc, out),
-            CompletionEditRange::Range(it) => it.write_json(alloc, out),
+            CompletionEditRange::InsertReplace(it) => it.write_json(out),
+            CompletionEditRange::Range(it) => it.write_json(out),
         }
     }
 }
@@ -823,23 +746,13 @@ impl ToJson for CompletionItemDefaults {
         ∷ (codes "insertTextFormat", option_map ⟦<InsertTextFormat as ToJson>⟧.stands it.insert_text_format)
         ∷ (codes "insertTextMode", option_map ⟦<InsertTextMode as ToJson>⟧.stands it.insert_text_mode) ∷ []) };
 
-    fn to_json(&self, alloc: Global) -> Result<Value, AllocError> {
-        Object::new(alloc)
-            .some("commitCharacters", &self.commit_characters)
-            .some("data", &self.data)
-            .some("editRange", &self.edit_range)
-            .some("insertTextFormat", &self.insert_text_format)
-            .some("insertTextMode", &self.insert_text_mode)
-            .end()
-    }
-
-    fn write_json(&self, alloc: Global, out: &mut JsonWriter) -> Result<(), JsonWriteError> {
+    fn write_json<S: JsonSink>(&self, out: &mut S) -> Result<(), S::Error> {
         out.begin_object()?;
-        write_some(alloc, out, "commitCharacters", &self.commit_characters)?;
-        write_some(alloc, out, "data", &self.data)?;
-        write_some(alloc, out, "editRange", &self.edit_range)?;
-        write_some(alloc, out, "insertTextFormat", &self.insert_text_format)?;
-        write_some(alloc, out, "insertTextMode", &self.insert_text_mode)?;
+        write_some(out, "commitCharacters", &self.commit_characters)?;
+        write_some(out, "data", &self.data)?;
+        write_some(out, "editRange", &self.edit_range)?;
+        write_some(out, "insertTextFormat", &self.insert_text_format)?;
+        write_some(out, "insertTextMode", &self.insert_text_mode)?;
         out.end_object()
     }
 }
@@ -896,8 +809,8 @@ impl CompletionTriggerKind {
 impl ToJson for CompletionTriggerKind {
     ghost stands = { λ it. number (unsigned it.0) };
 
-    fn to_json(&self, alloc: Global) -> Result<Value, AllocError> {
-        self.0.to_json(alloc)
+    fn write_json<S: JsonSink>(&self, out: &mut S) -> Result<(), S::Error> {
+        self.0.write_json(out)
     }
 }
 
@@ -926,11 +839,11 @@ impl ToJson for CompletionContext {
         (codes "triggerCharacter", option_map ⟦<String as ToJson>⟧.stands it.trigger_character)
         ∷ (codes "triggerKind", Some (⟦<CompletionTriggerKind as ToJson>⟧.stands it.trigger_kind)) ∷ []) };
 
-    fn to_json(&self, alloc: Global) -> Result<Value, AllocError> {
-        Object::new(alloc)
-            .some("triggerCharacter", &self.trigger_character)
-            .member("triggerKind", &self.trigger_kind)
-            .end()
+    fn write_json<S: JsonSink>(&self, out: &mut S) -> Result<(), S::Error> {
+        out.begin_object()?;
+        write_some(out, "triggerCharacter", &self.trigger_character)?;
+        write_member(out, "triggerKind", &self.trigger_kind)?;
+        out.end_object()
     }
 }
 
@@ -981,14 +894,14 @@ impl ToJson for CompletionParams {
         ∷ (codes "textDocument", Some (⟦<TextDocumentIdentifier as ToJson>⟧.stands it.text_document))
         ∷ (codes "workDoneToken", option_map ⟦<ProgressToken as ToJson>⟧.stands it.work_done_token) ∷ []) };
 
-    fn to_json(&self, alloc: Global) -> Result<Value, AllocError> {
-        Object::new(alloc)
-            .some("context", &self.context)
-            .some("partialResultToken", &self.partial_result_token)
-            .member("position", &self.position)
-            .member("textDocument", &self.text_document)
-            .some("workDoneToken", &self.work_done_token)
-            .end()
+    fn write_json<S: JsonSink>(&self, out: &mut S) -> Result<(), S::Error> {
+        out.begin_object()?;
+        write_some(out, "context", &self.context)?;
+        write_some(out, "partialResultToken", &self.partial_result_token)?;
+        write_member(out, "position", &self.position)?;
+        write_member(out, "textDocument", &self.text_document)?;
+        write_some(out, "workDoneToken", &self.work_done_token)?;
+        out.end_object()
     }
 }
 
@@ -1064,19 +977,11 @@ impl ToJson for CompletionList {
         ∷ (codes "itemDefaults", option_map ⟦<CompletionItemDefaults as ToJson>⟧.stands it.item_defaults)
         ∷ (codes "items", Some (⟦<Vec<CompletionItem> as ToJson>⟧.stands it.items)) ∷ []) };
 
-    fn to_json(&self, alloc: Global) -> Result<Value, AllocError> {
-        Object::new(alloc)
-            .member("isIncomplete", &self.is_incomplete)
-            .some("itemDefaults", &self.item_defaults)
-            .member("items", &self.items)
-            .end()
-    }
-
-    fn write_json(&self, alloc: Global, out: &mut JsonWriter) -> Result<(), JsonWriteError> {
+    fn write_json<S: JsonSink>(&self, out: &mut S) -> Result<(), S::Error> {
         out.begin_object()?;
-        write_member(alloc, out, "isIncomplete", &self.is_incomplete)?;
-        write_some(alloc, out, "itemDefaults", &self.item_defaults)?;
-        write_member(alloc, out, "items", &self.items)?;
+        write_member(out, "isIncomplete", &self.is_incomplete)?;
+        write_some(out, "itemDefaults", &self.item_defaults)?;
+        write_member(out, "items", &self.items)?;
         out.end_object()
     }
 }
@@ -1124,17 +1029,10 @@ impl ToJson for CompletionResult {
       | List it ↦ ⟦<CompletionList as ToJson>⟧.stands it
     ] };
 
-    fn to_json(&self, alloc: Global) -> Result<Value, AllocError> {
+    fn write_json<S: JsonSink>(&self, out: &mut S) -> Result<(), S::Error> {
         match self {
-            CompletionResult::Items(it) => it.to_json(alloc),
-            CompletionResult::List(it) => it.to_json(alloc),
-        }
-    }
-
-    fn write_json(&self, alloc: Global, out: &mut JsonWriter) -> Result<(), JsonWriteError> {
-        match self {
-            CompletionResult::Items(it) => it.write_json(alloc, out),
-            CompletionResult::List(it) => it.write_json(alloc, out),
+            CompletionResult::Items(it) => it.write_json(out),
+            CompletionResult::List(it) => it.write_json(out),
         }
     }
 }

@@ -7,13 +7,12 @@ ghost use Rattle.lsp_types.specs.Reads.{IsObject, IsWithin, Optional, Required, 
 
 use crate::choices::NumberOrString;
 use crate::documents::Location;
-use crate::json::{
-    FromJson, Members, Misfit, Object, ToJson, number_within, write_member, write_some,
-};
-use lsp_json::{JsonRef, JsonWriteError, JsonWriter};
+use crate::json::{FromJson, Members, Misfit, ToJson, number_within, write_member, write_some};
+use lsp_json::JsonRef;
+use lsp_json_write::JsonSink;
 use lsp_text::Range;
 use serde_json::Value;
-use std::alloc::{AllocError, Global};
+use std::alloc::Global;
 
 /// How severe a diagnostic is (LSP 3.17, "DiagnosticSeverity"). On reading, another number is refused.
 #[derive(Clone, Copy, Drop)]
@@ -33,12 +32,8 @@ impl DiagnosticSeverity {
 impl ToJson for DiagnosticSeverity {
     ghost stands = { λ it. number (unsigned it.0) };
 
-    fn to_json(&self, alloc: Global) -> Result<Value, AllocError> {
-        self.0.to_json(alloc)
-    }
-
-    fn write_json(&self, alloc: Global, out: &mut JsonWriter) -> Result<(), JsonWriteError> {
-        self.0.write_json(alloc, out)
+    fn write_json<S: JsonSink>(&self, out: &mut S) -> Result<(), S::Error> {
+        self.0.write_json(out)
     }
 }
 
@@ -67,12 +62,8 @@ impl DiagnosticTag {
 impl ToJson for DiagnosticTag {
     ghost stands = { λ it. number (unsigned it.0) };
 
-    fn to_json(&self, alloc: Global) -> Result<Value, AllocError> {
-        self.0.to_json(alloc)
-    }
-
-    fn write_json(&self, alloc: Global, out: &mut JsonWriter) -> Result<(), JsonWriteError> {
-        self.0.write_json(alloc, out)
+    fn write_json<S: JsonSink>(&self, out: &mut S) -> Result<(), S::Error> {
+        self.0.write_json(out)
     }
 }
 
@@ -101,17 +92,10 @@ impl ToJson for DiagnosticRelatedInformation {
         (codes "location", Some (⟦<Location as ToJson>⟧.stands it.location))
         ∷ (codes "message", Some (⟦<String as ToJson>⟧.stands it.message)) ∷ []) };
 
-    fn to_json(&self, alloc: Global) -> Result<Value, AllocError> {
-        Object::new(alloc)
-            .member("location", &self.location)
-            .member("message", &self.message)
-            .end()
-    }
-
-    fn write_json(&self, alloc: Global, out: &mut JsonWriter) -> Result<(), JsonWriteError> {
+    fn write_json<S: JsonSink>(&self, out: &mut S) -> Result<(), S::Error> {
         out.begin_object()?;
-        write_member(alloc, out, "location", &self.location)?;
-        write_member(alloc, out, "message", &self.message)?;
+        write_member(out, "location", &self.location)?;
+        write_member(out, "message", &self.message)?;
         out.end_object()
     }
 }
@@ -150,13 +134,9 @@ impl ToJson for CodeDescription {
     ghost stands = { λ it. object_of (
         (codes "href", Some (⟦<String as ToJson>⟧.stands it.href)) ∷ []) };
 
-    fn to_json(&self, alloc: Global) -> Result<Value, AllocError> {
-        Object::new(alloc).member("href", &self.href).end()
-    }
-
-    fn write_json(&self, alloc: Global, out: &mut JsonWriter) -> Result<(), JsonWriteError> {
+    fn write_json<S: JsonSink>(&self, out: &mut S) -> Result<(), S::Error> {
         out.begin_object()?;
-        write_member(alloc, out, "href", &self.href)?;
+        write_member(out, "href", &self.href)?;
         out.end_object()
     }
 }
@@ -242,31 +222,17 @@ impl ToJson for Diagnostic {
         ∷ (codes "source", option_map ⟦<String as ToJson>⟧.stands it.source)
         ∷ (codes "tags", option_map ⟦<Vec<DiagnosticTag> as ToJson>⟧.stands it.tags) ∷ []) };
 
-    fn to_json(&self, alloc: Global) -> Result<Value, AllocError> {
-        Object::new(alloc)
-            .some("code", &self.code)
-            .some("codeDescription", &self.code_description)
-            .some("data", &self.data)
-            .member("message", &self.message)
-            .member("range", &self.range)
-            .some("relatedInformation", &self.related_information)
-            .some("severity", &self.severity)
-            .some("source", &self.source)
-            .some("tags", &self.tags)
-            .end()
-    }
-
-    fn write_json(&self, alloc: Global, out: &mut JsonWriter) -> Result<(), JsonWriteError> {
+    fn write_json<S: JsonSink>(&self, out: &mut S) -> Result<(), S::Error> {
         out.begin_object()?;
-        write_some(alloc, out, "code", &self.code)?;
-        write_some(alloc, out, "codeDescription", &self.code_description)?;
-        write_some(alloc, out, "data", &self.data)?;
-        write_member(alloc, out, "message", &self.message)?;
-        write_member(alloc, out, "range", &self.range)?;
-        write_some(alloc, out, "relatedInformation", &self.related_information)?;
-        write_some(alloc, out, "severity", &self.severity)?;
-        write_some(alloc, out, "source", &self.source)?;
-        write_some(alloc, out, "tags", &self.tags)?;
+        write_some(out, "code", &self.code)?;
+        write_some(out, "codeDescription", &self.code_description)?;
+        write_some(out, "data", &self.data)?;
+        write_member(out, "message", &self.message)?;
+        write_member(out, "range", &self.range)?;
+        write_some(out, "relatedInformation", &self.related_information)?;
+        write_some(out, "severity", &self.severity)?;
+        write_some(out, "source", &self.source)?;
+        write_some(out, "tags", &self.tags)?;
         out.end_object()
     }
 }
@@ -359,12 +325,12 @@ impl ToJson for PublishDiagnosticsParams {
         ∷ (codes "uri", Some (⟦<String as ToJson>⟧.stands it.uri))
         ∷ (codes "version", option_map ⟦<i32 as ToJson>⟧.stands it.version) ∷ []) };
 
-    fn to_json(&self, alloc: Global) -> Result<Value, AllocError> {
-        Object::new(alloc)
-            .member("diagnostics", &self.diagnostics)
-            .member("uri", &self.uri)
-            .some("version", &self.version)
-            .end()
+    fn write_json<S: JsonSink>(&self, out: &mut S) -> Result<(), S::Error> {
+        out.begin_object()?;
+        write_member(out, "diagnostics", &self.diagnostics)?;
+        write_member(out, "uri", &self.uri)?;
+        write_some(out, "version", &self.version)?;
+        out.end_object()
     }
 }
 

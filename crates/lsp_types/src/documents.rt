@@ -6,13 +6,13 @@ ghost use Rattle.lsp_types.specs.Json.{object_of};
 ghost use Rattle.lsp_types.specs.Reads.{IfFits, IsObject, IsWithin, NoneReads, Optional, Required, TextOrEmpty, ◌and◌};
 
 use crate::json::{
-    FromJson, Members, Misfit, Object, ToJson, fitting, number_within, write_member, write_some,
+    FromJson, Members, Misfit, ToJson, fitting, number_within, write_member, write_some,
 };
 use crate::progress::ProgressToken;
-use lsp_json::{JsonRef, JsonWriteError, JsonWriter};
+use lsp_json::JsonRef;
+use lsp_json_write::JsonSink;
 use lsp_text::{ContentChange, Position, Range};
-use serde_json::Value;
-use std::alloc::{AllocError, Global};
+use std::alloc::Global;
 
 /// A part of a document (LSP 3.17, "Location").
 #[derive(Drop)]
@@ -28,17 +28,10 @@ impl ToJson for Location {
         (codes "range", Some (⟦<Range as ToJson>⟧.stands it.range))
         ∷ (codes "uri", Some (⟦<String as ToJson>⟧.stands it.uri)) ∷ []) };
 
-    fn to_json(&self, alloc: Global) -> Result<Value, AllocError> {
-        Object::new(alloc)
-            .member("range", &self.range)
-            .member("uri", &self.uri)
-            .end()
-    }
-
-    fn write_json(&self, alloc: Global, out: &mut JsonWriter) -> Result<(), JsonWriteError> {
+    fn write_json<S: JsonSink>(&self, out: &mut S) -> Result<(), S::Error> {
         out.begin_object()?;
-        write_member(alloc, out, "range", &self.range)?;
-        write_member(alloc, out, "uri", &self.uri)?;
+        write_member(out, "range", &self.range)?;
+        write_member(out, "uri", &self.uri)?;
         out.end_object()
     }
 }
@@ -108,31 +101,12 @@ impl ToJson for LocationLink {
         ∷ (codes "targetSelectionRange", Some (⟦<Range as ToJson>⟧.stands it.target_selection_range))
         ∷ (codes "targetUri", Some (⟦<String as ToJson>⟧.stands it.target_uri)) ∷ []) };
 
-    fn to_json(&self, alloc: Global) -> Result<Value, AllocError> {
-        Object::new(alloc)
-            .some("originSelectionRange", &self.origin_selection_range)
-            .member("targetRange", &self.target_range)
-            .member("targetSelectionRange", &self.target_selection_range)
-            .member("targetUri", &self.target_uri)
-            .end()
-    }
-
-    fn write_json(&self, alloc: Global, out: &mut JsonWriter) -> Result<(), JsonWriteError> {
+    fn write_json<S: JsonSink>(&self, out: &mut S) -> Result<(), S::Error> {
         out.begin_object()?;
-        write_some(
-            alloc,
-            out,
-            "originSelectionRange",
-            &self.origin_selection_range,
-        )?;
-        write_member(alloc, out, "targetRange", &self.target_range)?;
-        write_member(
-            alloc,
-            out,
-            "targetSelectionRange",
-            &self.target_selection_range,
-        )?;
-        write_member(alloc, out, "targetUri", &self.target_uri)?;
+        write_some(out, "originSelectionRange", &self.origin_selection_range)?;
+        write_member(out, "targetRange", &self.target_range)?;
+        write_member(out, "targetSelectionRange", &self.target_selection_range)?;
+        write_member(out, "targetUri", &self.target_uri)?;
         out.end_object()
     }
 }
@@ -190,19 +164,11 @@ impl ToJson for DefinitionResult {
       | Links it ↦ ⟦<Vec<LocationLink> as ToJson>⟧.stands it
     ] };
 
-    fn to_json(&self, alloc: Global) -> Result<Value, AllocError> {
+    fn write_json<S: JsonSink>(&self, out: &mut S) -> Result<(), S::Error> {
         match self {
-            DefinitionResult::One(it) => it.to_json(alloc),
-            DefinitionResult::Several(it) => it.to_json(alloc),
-            DefinitionResult::Links(it) => it.to_json(alloc),
-        }
-    }
-
-    fn write_json(&self, alloc: Global, out: &mut JsonWriter) -> Result<(), JsonWriteError> {
-        match self {
-            DefinitionResult::One(it) => it.write_json(alloc, out),
-            DefinitionResult::Several(it) => it.write_json(alloc, out),
-            DefinitionResult::Links(it) => it.write_json(alloc, out),
+            DefinitionResult::One(it) => it.write_json(out),
+            DefinitionResult::Several(it) => it.write_json(out),
+            DefinitionResult::Links(it) => it.write_json(out),
         }
     }
 }
@@ -241,13 +207,9 @@ impl ToJson for TextDocumentIdentifier {
     ghost stands = { λ it. object_of (
         (codes "uri", Some (⟦<String as ToJson>⟧.stands it.uri)) ∷ []) };
 
-    fn to_json(&self, alloc: Global) -> Result<Value, AllocError> {
-        Object::new(alloc).member("uri", &self.uri).end()
-    }
-
-    fn write_json(&self, alloc: Global, out: &mut JsonWriter) -> Result<(), JsonWriteError> {
+    fn write_json<S: JsonSink>(&self, out: &mut S) -> Result<(), S::Error> {
         out.begin_object()?;
-        write_member(alloc, out, "uri", &self.uri)?;
+        write_member(out, "uri", &self.uri)?;
         out.end_object()
     }
 }
@@ -282,11 +244,11 @@ impl ToJson for VersionedTextDocumentIdentifier {
         (codes "uri", Some (⟦<String as ToJson>⟧.stands it.uri))
         ∷ (codes "version", option_map ⟦<i32 as ToJson>⟧.stands it.version) ∷ []) };
 
-    fn to_json(&self, alloc: Global) -> Result<Value, AllocError> {
-        Object::new(alloc)
-            .member("uri", &self.uri)
-            .some("version", &self.version)
-            .end()
+    fn write_json<S: JsonSink>(&self, out: &mut S) -> Result<(), S::Error> {
+        out.begin_object()?;
+        write_member(out, "uri", &self.uri)?;
+        write_some(out, "version", &self.version)?;
+        out.end_object()
     }
 }
 
@@ -334,13 +296,13 @@ impl ToJson for TextDocumentItem {
         ∷ (codes "uri", Some (⟦<String as ToJson>⟧.stands it.uri))
         ∷ (codes "version", option_map ⟦<i32 as ToJson>⟧.stands it.version) ∷ []) };
 
-    fn to_json(&self, alloc: Global) -> Result<Value, AllocError> {
-        Object::new(alloc)
-            .member("languageId", &self.language_id)
-            .member("text", &self.text)
-            .member("uri", &self.uri)
-            .some("version", &self.version)
-            .end()
+    fn write_json<S: JsonSink>(&self, out: &mut S) -> Result<(), S::Error> {
+        out.begin_object()?;
+        write_member(out, "languageId", &self.language_id)?;
+        write_member(out, "text", &self.text)?;
+        write_member(out, "uri", &self.uri)?;
+        write_some(out, "version", &self.version)?;
+        out.end_object()
     }
 }
 
@@ -384,10 +346,10 @@ impl ToJson for DidOpenTextDocumentParams {
     ghost stands = { λ it. object_of (
         (codes "textDocument", Some (⟦<TextDocumentItem as ToJson>⟧.stands it.text_document)) ∷ []) };
 
-    fn to_json(&self, alloc: Global) -> Result<Value, AllocError> {
-        Object::new(alloc)
-            .member("textDocument", &self.text_document)
-            .end()
+    fn write_json<S: JsonSink>(&self, out: &mut S) -> Result<(), S::Error> {
+        out.begin_object()?;
+        write_member(out, "textDocument", &self.text_document)?;
+        out.end_object()
     }
 }
 
@@ -420,11 +382,11 @@ impl ToJson for DidChangeTextDocumentParams {
         (codes "contentChanges", Some (⟦<Vec<ContentChange> as ToJson>⟧.stands it.content_changes))
         ∷ (codes "textDocument", Some (⟦<VersionedTextDocumentIdentifier as ToJson>⟧.stands it.text_document)) ∷ []) };
 
-    fn to_json(&self, alloc: Global) -> Result<Value, AllocError> {
-        Object::new(alloc)
-            .member("contentChanges", &self.content_changes)
-            .member("textDocument", &self.text_document)
-            .end()
+    fn write_json<S: JsonSink>(&self, out: &mut S) -> Result<(), S::Error> {
+        out.begin_object()?;
+        write_member(out, "contentChanges", &self.content_changes)?;
+        write_member(out, "textDocument", &self.text_document)?;
+        out.end_object()
     }
 }
 
@@ -468,11 +430,11 @@ impl ToJson for DidSaveTextDocumentParams {
         (codes "text", option_map ⟦<String as ToJson>⟧.stands it.text)
         ∷ (codes "textDocument", Some (⟦<TextDocumentIdentifier as ToJson>⟧.stands it.text_document)) ∷ []) };
 
-    fn to_json(&self, alloc: Global) -> Result<Value, AllocError> {
-        Object::new(alloc)
-            .some("text", &self.text)
-            .member("textDocument", &self.text_document)
-            .end()
+    fn write_json<S: JsonSink>(&self, out: &mut S) -> Result<(), S::Error> {
+        out.begin_object()?;
+        write_some(out, "text", &self.text)?;
+        write_member(out, "textDocument", &self.text_document)?;
+        out.end_object()
     }
 }
 
@@ -514,11 +476,11 @@ impl ToJson for WillSaveTextDocumentParams {
         (codes "reason", Some (⟦<TextDocumentSaveReason as ToJson>⟧.stands it.reason))
         ∷ (codes "textDocument", Some (⟦<TextDocumentIdentifier as ToJson>⟧.stands it.text_document)) ∷ []) };
 
-    fn to_json(&self, alloc: Global) -> Result<Value, AllocError> {
-        Object::new(alloc)
-            .member("reason", &self.reason)
-            .member("textDocument", &self.text_document)
-            .end()
+    fn write_json<S: JsonSink>(&self, out: &mut S) -> Result<(), S::Error> {
+        out.begin_object()?;
+        write_member(out, "reason", &self.reason)?;
+        write_member(out, "textDocument", &self.text_document)?;
+        out.end_object()
     }
 }
 
@@ -561,8 +523,8 @@ impl TextDocumentSaveReason {
 impl ToJson for TextDocumentSaveReason {
     ghost stands = { λ it. number (unsigned it.0) };
 
-    fn to_json(&self, alloc: Global) -> Result<Value, AllocError> {
-        self.0.to_json(alloc)
+    fn write_json<S: JsonSink>(&self, out: &mut S) -> Result<(), S::Error> {
+        self.0.write_json(out)
     }
 }
 
@@ -588,10 +550,10 @@ impl ToJson for DidCloseTextDocumentParams {
     ghost stands = { λ it. object_of (
         (codes "textDocument", Some (⟦<TextDocumentIdentifier as ToJson>⟧.stands it.text_document)) ∷ []) };
 
-    fn to_json(&self, alloc: Global) -> Result<Value, AllocError> {
-        Object::new(alloc)
-            .member("textDocument", &self.text_document)
-            .end()
+    fn write_json<S: JsonSink>(&self, out: &mut S) -> Result<(), S::Error> {
+        out.begin_object()?;
+        write_member(out, "textDocument", &self.text_document)?;
+        out.end_object()
     }
 }
 
@@ -628,12 +590,12 @@ impl ToJson for DocumentSymbolParams {
         ∷ (codes "textDocument", Some (⟦<TextDocumentIdentifier as ToJson>⟧.stands it.text_document))
         ∷ (codes "workDoneToken", option_map ⟦<ProgressToken as ToJson>⟧.stands it.work_done_token) ∷ []) };
 
-    fn to_json(&self, alloc: Global) -> Result<Value, AllocError> {
-        Object::new(alloc)
-            .some("partialResultToken", &self.partial_result_token)
-            .member("textDocument", &self.text_document)
-            .some("workDoneToken", &self.work_done_token)
-            .end()
+    fn write_json<S: JsonSink>(&self, out: &mut S) -> Result<(), S::Error> {
+        out.begin_object()?;
+        write_some(out, "partialResultToken", &self.partial_result_token)?;
+        write_member(out, "textDocument", &self.text_document)?;
+        write_some(out, "workDoneToken", &self.work_done_token)?;
+        out.end_object()
     }
 }
 
@@ -684,11 +646,11 @@ impl ToJson for TextDocumentPositionParams {
         (codes "position", Some (⟦<Position as ToJson>⟧.stands it.position))
         ∷ (codes "textDocument", Some (⟦<TextDocumentIdentifier as ToJson>⟧.stands it.text_document)) ∷ []) };
 
-    fn to_json(&self, alloc: Global) -> Result<Value, AllocError> {
-        Object::new(alloc)
-            .member("position", &self.position)
-            .member("textDocument", &self.text_document)
-            .end()
+    fn write_json<S: JsonSink>(&self, out: &mut S) -> Result<(), S::Error> {
+        out.begin_object()?;
+        write_member(out, "position", &self.position)?;
+        write_member(out, "textDocument", &self.text_document)?;
+        out.end_object()
     }
 }
 
@@ -732,12 +694,12 @@ impl ToJson for HoverParams {
         ∷ (codes "textDocument", Some (⟦<TextDocumentIdentifier as ToJson>⟧.stands it.text_document))
         ∷ (codes "workDoneToken", option_map ⟦<ProgressToken as ToJson>⟧.stands it.work_done_token) ∷ []) };
 
-    fn to_json(&self, alloc: Global) -> Result<Value, AllocError> {
-        Object::new(alloc)
-            .member("position", &self.position)
-            .member("textDocument", &self.text_document)
-            .some("workDoneToken", &self.work_done_token)
-            .end()
+    fn write_json<S: JsonSink>(&self, out: &mut S) -> Result<(), S::Error> {
+        out.begin_object()?;
+        write_member(out, "position", &self.position)?;
+        write_member(out, "textDocument", &self.text_document)?;
+        write_some(out, "workDoneToken", &self.work_done_token)?;
+        out.end_object()
     }
 }
 
@@ -791,13 +753,13 @@ impl ToJson for DefinitionParams {
         ∷ (codes "textDocument", Some (⟦<TextDocumentIdentifier as ToJson>⟧.stands it.text_document))
         ∷ (codes "workDoneToken", option_map ⟦<ProgressToken as ToJson>⟧.stands it.work_done_token) ∷ []) };
 
-    fn to_json(&self, alloc: Global) -> Result<Value, AllocError> {
-        Object::new(alloc)
-            .some("partialResultToken", &self.partial_result_token)
-            .member("position", &self.position)
-            .member("textDocument", &self.text_document)
-            .some("workDoneToken", &self.work_done_token)
-            .end()
+    fn write_json<S: JsonSink>(&self, out: &mut S) -> Result<(), S::Error> {
+        out.begin_object()?;
+        write_some(out, "partialResultToken", &self.partial_result_token)?;
+        write_member(out, "position", &self.position)?;
+        write_member(out, "textDocument", &self.text_document)?;
+        write_some(out, "workDoneToken", &self.work_done_token)?;
+        out.end_object()
     }
 }
 
@@ -859,12 +821,12 @@ impl ToJson for InlayHintParams {
         ∷ (codes "textDocument", Some (⟦<TextDocumentIdentifier as ToJson>⟧.stands it.text_document))
         ∷ (codes "workDoneToken", option_map ⟦<ProgressToken as ToJson>⟧.stands it.work_done_token) ∷ []) };
 
-    fn to_json(&self, alloc: Global) -> Result<Value, AllocError> {
-        Object::new(alloc)
-            .member("range", &self.range)
-            .member("textDocument", &self.text_document)
-            .some("workDoneToken", &self.work_done_token)
-            .end()
+    fn write_json<S: JsonSink>(&self, out: &mut S) -> Result<(), S::Error> {
+        out.begin_object()?;
+        write_member(out, "range", &self.range)?;
+        write_member(out, "textDocument", &self.text_document)?;
+        write_some(out, "workDoneToken", &self.work_done_token)?;
+        out.end_object()
     }
 }
 
@@ -915,13 +877,13 @@ impl ToJson for SemanticTokensRangeParams {
         ∷ (codes "textDocument", Some (⟦<TextDocumentIdentifier as ToJson>⟧.stands it.text_document))
         ∷ (codes "workDoneToken", option_map ⟦<ProgressToken as ToJson>⟧.stands it.work_done_token) ∷ []) };
 
-    fn to_json(&self, alloc: Global) -> Result<Value, AllocError> {
-        Object::new(alloc)
-            .some("partialResultToken", &self.partial_result_token)
-            .member("range", &self.range)
-            .member("textDocument", &self.text_document)
-            .some("workDoneToken", &self.work_done_token)
-            .end()
+    fn write_json<S: JsonSink>(&self, out: &mut S) -> Result<(), S::Error> {
+        out.begin_object()?;
+        write_some(out, "partialResultToken", &self.partial_result_token)?;
+        write_member(out, "range", &self.range)?;
+        write_member(out, "textDocument", &self.text_document)?;
+        write_some(out, "workDoneToken", &self.work_done_token)?;
+        out.end_object()
     }
 }
 
@@ -981,14 +943,14 @@ impl ToJson for ReferenceParams {
         ∷ (codes "textDocument", Some (⟦<TextDocumentIdentifier as ToJson>⟧.stands it.text_document))
         ∷ (codes "workDoneToken", option_map ⟦<ProgressToken as ToJson>⟧.stands it.work_done_token) ∷ []) };
 
-    fn to_json(&self, alloc: Global) -> Result<Value, AllocError> {
-        Object::new(alloc)
-            .member("context", &self.context)
-            .some("partialResultToken", &self.partial_result_token)
-            .member("position", &self.position)
-            .member("textDocument", &self.text_document)
-            .some("workDoneToken", &self.work_done_token)
-            .end()
+    fn write_json<S: JsonSink>(&self, out: &mut S) -> Result<(), S::Error> {
+        out.begin_object()?;
+        write_member(out, "context", &self.context)?;
+        write_some(out, "partialResultToken", &self.partial_result_token)?;
+        write_member(out, "position", &self.position)?;
+        write_member(out, "textDocument", &self.text_document)?;
+        write_some(out, "workDoneToken", &self.work_done_token)?;
+        out.end_object()
     }
 }
 
@@ -1039,10 +1001,10 @@ impl ToJson for ReferenceContext {
     ghost stands = { λ it. object_of (
         (codes "includeDeclaration", Some (⟦<bool as ToJson>⟧.stands it.include_declaration)) ∷ []) };
 
-    fn to_json(&self, alloc: Global) -> Result<Value, AllocError> {
-        Object::new(alloc)
-            .member("includeDeclaration", &self.include_declaration)
-            .end()
+    fn write_json<S: JsonSink>(&self, out: &mut S) -> Result<(), S::Error> {
+        out.begin_object()?;
+        write_member(out, "includeDeclaration", &self.include_declaration)?;
+        out.end_object()
     }
 }
 

@@ -7,13 +7,13 @@ ghost use Rattle.lsp_types.specs.Reads.{IfFits, IsObject, Named, NoneReads, Opti
 
 use crate::documents::TextDocumentIdentifier;
 use crate::json::{
-    FromJson, Members, Misfit, Object, ToJson, fitting, write_member, write_some, write_text,
+    FromJson, Members, Misfit, ToJson, fitting, write_member, write_some, write_text,
 };
 use crate::progress::ProgressToken;
-use lsp_json::{JsonRef, JsonWriteError, JsonWriter};
+use lsp_json::JsonRef;
+use lsp_json_write::JsonSink;
 use lsp_text::{Position, Range};
-use serde_json::Value;
-use std::alloc::{AllocError, Global};
+use std::alloc::Global;
 use std::collections::BTreeMap;
 
 /// A change of a text (LSP 3.17, "TextEdit").
@@ -30,17 +30,10 @@ impl ToJson for TextEdit {
         (codes "newText", Some (⟦<String as ToJson>⟧.stands it.new_text))
         ∷ (codes "range", Some (⟦<Range as ToJson>⟧.stands it.range)) ∷ []) };
 
-    fn to_json(&self, alloc: Global) -> Result<Value, AllocError> {
-        Object::new(alloc)
-            .member("newText", &self.new_text)
-            .member("range", &self.range)
-            .end()
-    }
-
-    fn write_json(&self, alloc: Global, out: &mut JsonWriter) -> Result<(), JsonWriteError> {
+    fn write_json<S: JsonSink>(&self, out: &mut S) -> Result<(), S::Error> {
         out.begin_object()?;
-        write_member(alloc, out, "newText", &self.new_text)?;
-        write_member(alloc, out, "range", &self.range)?;
+        write_member(out, "newText", &self.new_text)?;
+        write_member(out, "range", &self.range)?;
         out.end_object()
     }
 }
@@ -79,17 +72,10 @@ impl ToJson for OptionalVersionedTextDocumentIdentifier {
         (codes "uri", Some (⟦<String as ToJson>⟧.stands it.uri))
         ∷ (codes "version", Some (⟦<Option<i32> as ToJson>⟧.stands it.version)) ∷ []) };
 
-    fn to_json(&self, alloc: Global) -> Result<Value, AllocError> {
-        Object::new(alloc)
-            .member("uri", &self.uri)
-            .member("version", &self.version)
-            .end()
-    }
-
-    fn write_json(&self, alloc: Global, out: &mut JsonWriter) -> Result<(), JsonWriteError> {
+    fn write_json<S: JsonSink>(&self, out: &mut S) -> Result<(), S::Error> {
         out.begin_object()?;
-        write_member(alloc, out, "uri", &self.uri)?;
-        write_member(alloc, out, "version", &self.version)?;
+        write_member(out, "uri", &self.uri)?;
+        write_member(out, "version", &self.version)?;
         out.end_object()
     }
 }
@@ -134,19 +120,11 @@ impl ToJson for AnnotatedTextEdit {
         ∷ (codes "newText", Some (⟦<String as ToJson>⟧.stands it.new_text))
         ∷ (codes "range", Some (⟦<Range as ToJson>⟧.stands it.range)) ∷ []) };
 
-    fn to_json(&self, alloc: Global) -> Result<Value, AllocError> {
-        Object::new(alloc)
-            .member("annotationId", &self.annotation_id)
-            .member("newText", &self.new_text)
-            .member("range", &self.range)
-            .end()
-    }
-
-    fn write_json(&self, alloc: Global, out: &mut JsonWriter) -> Result<(), JsonWriteError> {
+    fn write_json<S: JsonSink>(&self, out: &mut S) -> Result<(), S::Error> {
         out.begin_object()?;
-        write_member(alloc, out, "annotationId", &self.annotation_id)?;
-        write_member(alloc, out, "newText", &self.new_text)?;
-        write_member(alloc, out, "range", &self.range)?;
+        write_member(out, "annotationId", &self.annotation_id)?;
+        write_member(out, "newText", &self.new_text)?;
+        write_member(out, "range", &self.range)?;
         out.end_object()
     }
 }
@@ -194,17 +172,10 @@ impl ToJson for AnyTextEdit {
       | Plain it ↦ ⟦<TextEdit as ToJson>⟧.stands it
     ] };
 
-    fn to_json(&self, alloc: Global) -> Result<Value, AllocError> {
+    fn write_json<S: JsonSink>(&self, out: &mut S) -> Result<(), S::Error> {
         match self {
-            AnyTextEdit::Annotated(it) => it.to_json(alloc),
-            AnyTextEdit::Plain(it) => it.to_json(alloc),
-        }
-    }
-
-    fn write_json(&self, alloc: Global, out: &mut JsonWriter) -> Result<(), JsonWriteError> {
-        match self {
-            AnyTextEdit::Annotated(it) => it.write_json(alloc, out),
-            AnyTextEdit::Plain(it) => it.write_json(alloc, out),
+            AnyTextEdit::Annotated(it) => it.write_json(out),
+            AnyTextEdit::Plain(it) => it.write_json(out),
         }
     }
 }
@@ -242,17 +213,10 @@ impl ToJson for TextDocumentEdit {
         (codes "edits", Some (⟦<Vec<AnyTextEdit> as ToJson>⟧.stands it.edits))
         ∷ (codes "textDocument", Some (⟦<OptionalVersionedTextDocumentIdentifier as ToJson>⟧.stands it.text_document)) ∷ []) };
 
-    fn to_json(&self, alloc: Global) -> Result<Value, AllocError> {
-        Object::new(alloc)
-            .member("edits", &self.edits)
-            .member("textDocument", &self.text_document)
-            .end()
-    }
-
-    fn write_json(&self, alloc: Global, out: &mut JsonWriter) -> Result<(), JsonWriteError> {
+    fn write_json<S: JsonSink>(&self, out: &mut S) -> Result<(), S::Error> {
         out.begin_object()?;
-        write_member(alloc, out, "edits", &self.edits)?;
-        write_member(alloc, out, "textDocument", &self.text_document)?;
+        write_member(out, "edits", &self.edits)?;
+        write_member(out, "textDocument", &self.text_document)?;
         out.end_object()
     }
 }
@@ -311,17 +275,10 @@ impl ToJson for CreateFileOptions {
         (codes "ignoreIfExists", option_map ⟦<bool as ToJson>⟧.stands it.ignore_if_exists)
         ∷ (codes "overwrite", option_map ⟦<bool as ToJson>⟧.stands it.overwrite) ∷ []) };
 
-    fn to_json(&self, alloc: Global) -> Result<Value, AllocError> {
-        Object::new(alloc)
-            .some("ignoreIfExists", &self.ignore_if_exists)
-            .some("overwrite", &self.overwrite)
-            .end()
-    }
-
-    fn write_json(&self, alloc: Global, out: &mut JsonWriter) -> Result<(), JsonWriteError> {
+    fn write_json<S: JsonSink>(&self, out: &mut S) -> Result<(), S::Error> {
         out.begin_object()?;
-        write_some(alloc, out, "ignoreIfExists", &self.ignore_if_exists)?;
-        write_some(alloc, out, "overwrite", &self.overwrite)?;
+        write_some(out, "ignoreIfExists", &self.ignore_if_exists)?;
+        write_some(out, "overwrite", &self.overwrite)?;
         out.end_object()
     }
 }
@@ -383,17 +340,10 @@ impl ToJson for DeleteFileOptions {
         (codes "ignoreIfNotExists", option_map ⟦<bool as ToJson>⟧.stands it.ignore_if_not_exists)
         ∷ (codes "recursive", option_map ⟦<bool as ToJson>⟧.stands it.recursive) ∷ []) };
 
-    fn to_json(&self, alloc: Global) -> Result<Value, AllocError> {
-        Object::new(alloc)
-            .some("ignoreIfNotExists", &self.ignore_if_not_exists)
-            .some("recursive", &self.recursive)
-            .end()
-    }
-
-    fn write_json(&self, alloc: Global, out: &mut JsonWriter) -> Result<(), JsonWriteError> {
+    fn write_json<S: JsonSink>(&self, out: &mut S) -> Result<(), S::Error> {
         out.begin_object()?;
-        write_some(alloc, out, "ignoreIfNotExists", &self.ignore_if_not_exists)?;
-        write_some(alloc, out, "recursive", &self.recursive)?;
+        write_some(out, "ignoreIfNotExists", &self.ignore_if_not_exists)?;
+        write_some(out, "recursive", &self.recursive)?;
         out.end_object()
     }
 }
@@ -458,21 +408,12 @@ impl ToJson for CreateFile {
         ∷ (codes "options", option_map ⟦<CreateFileOptions as ToJson>⟧.stands it.options)
         ∷ (codes "uri", Some (⟦<String as ToJson>⟧.stands it.uri)) ∷ []) };
 
-    fn to_json(&self, alloc: Global) -> Result<Value, AllocError> {
-        Object::new(alloc)
-            .some("annotationId", &self.annotation_id)
-            .text("kind", "create")
-            .some("options", &self.options)
-            .member("uri", &self.uri)
-            .end()
-    }
-
-    fn write_json(&self, alloc: Global, out: &mut JsonWriter) -> Result<(), JsonWriteError> {
+    fn write_json<S: JsonSink>(&self, out: &mut S) -> Result<(), S::Error> {
         out.begin_object()?;
-        write_some(alloc, out, "annotationId", &self.annotation_id)?;
+        write_some(out, "annotationId", &self.annotation_id)?;
         write_text(out, "kind", "create")?;
-        write_some(alloc, out, "options", &self.options)?;
-        write_member(alloc, out, "uri", &self.uri)?;
+        write_some(out, "options", &self.options)?;
+        write_member(out, "uri", &self.uri)?;
         out.end_object()
     }
 }
@@ -547,23 +488,13 @@ impl ToJson for RenameFile {
         ∷ (codes "oldUri", Some (⟦<String as ToJson>⟧.stands it.old_uri))
         ∷ (codes "options", option_map ⟦<RenameFileOptions as ToJson>⟧.stands it.options) ∷ []) };
 
-    fn to_json(&self, alloc: Global) -> Result<Value, AllocError> {
-        Object::new(alloc)
-            .some("annotationId", &self.annotation_id)
-            .text("kind", "rename")
-            .member("newUri", &self.new_uri)
-            .member("oldUri", &self.old_uri)
-            .some("options", &self.options)
-            .end()
-    }
-
-    fn write_json(&self, alloc: Global, out: &mut JsonWriter) -> Result<(), JsonWriteError> {
+    fn write_json<S: JsonSink>(&self, out: &mut S) -> Result<(), S::Error> {
         out.begin_object()?;
-        write_some(alloc, out, "annotationId", &self.annotation_id)?;
+        write_some(out, "annotationId", &self.annotation_id)?;
         write_text(out, "kind", "rename")?;
-        write_member(alloc, out, "newUri", &self.new_uri)?;
-        write_member(alloc, out, "oldUri", &self.old_uri)?;
-        write_some(alloc, out, "options", &self.options)?;
+        write_member(out, "newUri", &self.new_uri)?;
+        write_member(out, "oldUri", &self.old_uri)?;
+        write_some(out, "options", &self.options)?;
         out.end_object()
     }
 }
@@ -636,21 +567,12 @@ impl ToJson for DeleteFile {
         ∷ (codes "options", option_map ⟦<DeleteFileOptions as ToJson>⟧.stands it.options)
         ∷ (codes "uri", Some (⟦<String as ToJson>⟧.stands it.uri)) ∷ []) };
 
-    fn to_json(&self, alloc: Global) -> Result<Value, AllocError> {
-        Object::new(alloc)
-            .some("annotationId", &self.annotation_id)
-            .text("kind", "delete")
-            .some("options", &self.options)
-            .member("uri", &self.uri)
-            .end()
-    }
-
-    fn write_json(&self, alloc: Global, out: &mut JsonWriter) -> Result<(), JsonWriteError> {
+    fn write_json<S: JsonSink>(&self, out: &mut S) -> Result<(), S::Error> {
         out.begin_object()?;
-        write_some(alloc, out, "annotationId", &self.annotation_id)?;
+        write_some(out, "annotationId", &self.annotation_id)?;
         write_text(out, "kind", "delete")?;
-        write_some(alloc, out, "options", &self.options)?;
-        write_member(alloc, out, "uri", &self.uri)?;
+        write_some(out, "options", &self.options)?;
+        write_member(out, "uri", &self.uri)?;
         out.end_object()
     }
 }
@@ -707,21 +629,12 @@ impl ToJson for DocumentChange {
       | Edit it ↦ ⟦<TextDocumentEdit as ToJson>⟧.stands it
     ] };
 
-    fn to_json(&self, alloc: Global) -> Result<Value, AllocError> {
+    fn write_json<S: JsonSink>(&self, out: &mut S) -> Result<(), S::Error> {
         match self {
-            DocumentChange::Create(it) => it.to_json(alloc),
-            DocumentChange::Rename(it) => it.to_json(alloc),
-            DocumentChange::Delete(it) => it.to_json(alloc),
-            DocumentChange::Edit(it) => it.to_json(alloc),
-        }
-    }
-
-    fn write_json(&self, alloc: Global, out: &mut JsonWriter) -> Result<(), JsonWriteError> {
-        match self {
-            DocumentChange::Create(it) => it.write_json(alloc, out),
-            DocumentChange::Rename(it) => it.write_json(alloc, out),
-            DocumentChange::Delete(it) => it.write_json(alloc, out),
-            DocumentChange::Edit(it) => it.write_json(alloc, out),
+            DocumentChange::Create(it) => it.write_json(out),
+            DocumentChange::Rename(it) => it.write_json(out),
+            DocumentChange::Delete(it) => it.write_json(out),
+            DocumentChange::Edit(it) => it.write_json(out),
         }
     }
 }
@@ -790,19 +703,11 @@ impl ToJson for WorkspaceEdit {
         ∷ (codes "changes", option_map ⟦<BTreeMap<String, Vec<TextEdit>> as ToJson>⟧.stands it.changes)
         ∷ (codes "documentChanges", option_map ⟦<Vec<DocumentChange> as ToJson>⟧.stands it.document_changes) ∷ []) };
 
-    fn to_json(&self, alloc: Global) -> Result<Value, AllocError> {
-        Object::new(alloc)
-            .some("changeAnnotations", &self.change_annotations)
-            .some("changes", &self.changes)
-            .some("documentChanges", &self.document_changes)
-            .end()
-    }
-
-    fn write_json(&self, alloc: Global, out: &mut JsonWriter) -> Result<(), JsonWriteError> {
+    fn write_json<S: JsonSink>(&self, out: &mut S) -> Result<(), S::Error> {
         out.begin_object()?;
-        write_some(alloc, out, "changeAnnotations", &self.change_annotations)?;
-        write_some(alloc, out, "changes", &self.changes)?;
-        write_some(alloc, out, "documentChanges", &self.document_changes)?;
+        write_some(out, "changeAnnotations", &self.change_annotations)?;
+        write_some(out, "changes", &self.changes)?;
+        write_some(out, "documentChanges", &self.document_changes)?;
         out.end_object()
     }
 }
@@ -869,19 +774,11 @@ impl ToJson for ChangeAnnotation {
         ∷ (codes "label", Some (⟦<String as ToJson>⟧.stands it.label))
         ∷ (codes "needsConfirmation", option_map ⟦<bool as ToJson>⟧.stands it.needs_confirmation) ∷ []) };
 
-    fn to_json(&self, alloc: Global) -> Result<Value, AllocError> {
-        Object::new(alloc)
-            .some("description", &self.description)
-            .member("label", &self.label)
-            .some("needsConfirmation", &self.needs_confirmation)
-            .end()
-    }
-
-    fn write_json(&self, alloc: Global, out: &mut JsonWriter) -> Result<(), JsonWriteError> {
+    fn write_json<S: JsonSink>(&self, out: &mut S) -> Result<(), S::Error> {
         out.begin_object()?;
-        write_some(alloc, out, "description", &self.description)?;
-        write_member(alloc, out, "label", &self.label)?;
-        write_some(alloc, out, "needsConfirmation", &self.needs_confirmation)?;
+        write_some(out, "description", &self.description)?;
+        write_member(out, "label", &self.label)?;
+        write_some(out, "needsConfirmation", &self.needs_confirmation)?;
         out.end_object()
     }
 }
@@ -932,13 +829,13 @@ impl ToJson for RenameParams {
         ∷ (codes "textDocument", Some (⟦<TextDocumentIdentifier as ToJson>⟧.stands it.text_document))
         ∷ (codes "workDoneToken", option_map ⟦<ProgressToken as ToJson>⟧.stands it.work_done_token) ∷ []) };
 
-    fn to_json(&self, alloc: Global) -> Result<Value, AllocError> {
-        Object::new(alloc)
-            .member("newName", &self.new_name)
-            .member("position", &self.position)
-            .member("textDocument", &self.text_document)
-            .some("workDoneToken", &self.work_done_token)
-            .end()
+    fn write_json<S: JsonSink>(&self, out: &mut S) -> Result<(), S::Error> {
+        out.begin_object()?;
+        write_member(out, "newName", &self.new_name)?;
+        write_member(out, "position", &self.position)?;
+        write_member(out, "textDocument", &self.text_document)?;
+        write_some(out, "workDoneToken", &self.work_done_token)?;
+        out.end_object()
     }
 }
 
@@ -985,17 +882,10 @@ impl ToJson for PrepareRenamePlaceholder {
         (codes "placeholder", Some (⟦<String as ToJson>⟧.stands it.placeholder))
         ∷ (codes "range", Some (⟦<Range as ToJson>⟧.stands it.range)) ∷ []) };
 
-    fn to_json(&self, alloc: Global) -> Result<Value, AllocError> {
-        Object::new(alloc)
-            .member("placeholder", &self.placeholder)
-            .member("range", &self.range)
-            .end()
-    }
-
-    fn write_json(&self, alloc: Global, out: &mut JsonWriter) -> Result<(), JsonWriteError> {
+    fn write_json<S: JsonSink>(&self, out: &mut S) -> Result<(), S::Error> {
         out.begin_object()?;
-        write_member(alloc, out, "placeholder", &self.placeholder)?;
-        write_member(alloc, out, "range", &self.range)?;
+        write_member(out, "placeholder", &self.placeholder)?;
+        write_member(out, "range", &self.range)?;
         out.end_object()
     }
 }
@@ -1031,15 +921,9 @@ impl ToJson for PrepareRenameDefaultBehavior {
     ghost stands = { λ it. object_of (
         (codes "defaultBehavior", Some (⟦<bool as ToJson>⟧.stands it.default_behavior)) ∷ []) };
 
-    fn to_json(&self, alloc: Global) -> Result<Value, AllocError> {
-        Object::new(alloc)
-            .member("defaultBehavior", &self.default_behavior)
-            .end()
-    }
-
-    fn write_json(&self, alloc: Global, out: &mut JsonWriter) -> Result<(), JsonWriteError> {
+    fn write_json<S: JsonSink>(&self, out: &mut S) -> Result<(), S::Error> {
         out.begin_object()?;
-        write_member(alloc, out, "defaultBehavior", &self.default_behavior)?;
+        write_member(out, "defaultBehavior", &self.default_behavior)?;
         out.end_object()
     }
 }
@@ -1083,19 +967,11 @@ impl ToJson for PrepareRenameResult {
       | Range it ↦ ⟦<Range as ToJson>⟧.stands it
     ] };
 
-    fn to_json(&self, alloc: Global) -> Result<Value, AllocError> {
+    fn write_json<S: JsonSink>(&self, out: &mut S) -> Result<(), S::Error> {
         match self {
-            PrepareRenameResult::Placeholder(it) => it.to_json(alloc),
-            PrepareRenameResult::Default(it) => it.to_json(alloc),
-            PrepareRenameResult::Range(it) => it.to_json(alloc),
-        }
-    }
-
-    fn write_json(&self, alloc: Global, out: &mut JsonWriter) -> Result<(), JsonWriteError> {
-        match self {
-            PrepareRenameResult::Placeholder(it) => it.write_json(alloc, out),
-            PrepareRenameResult::Default(it) => it.write_json(alloc, out),
-            PrepareRenameResult::Range(it) => it.write_json(alloc, out),
+            PrepareRenameResult::Placeholder(it) => it.write_json(out),
+            PrepareRenameResult::Default(it) => it.write_json(out),
+            PrepareRenameResult::Range(it) => it.write_json(out),
         }
     }
 }
@@ -1146,14 +1022,18 @@ impl ToJson for FormattingOptions {
         ∷ (codes "trimFinalNewlines", option_map ⟦<bool as ToJson>⟧.stands it.trim_final_newlines)
         ∷ (codes "trimTrailingWhitespace", option_map ⟦<bool as ToJson>⟧.stands it.trim_trailing_whitespace) ∷ []) };
 
-    fn to_json(&self, alloc: Global) -> Result<Value, AllocError> {
-        Object::new(alloc)
-            .some("insertFinalNewline", &self.insert_final_newline)
-            .member("insertSpaces", &self.insert_spaces)
-            .member("tabSize", &self.tab_size)
-            .some("trimFinalNewlines", &self.trim_final_newlines)
-            .some("trimTrailingWhitespace", &self.trim_trailing_whitespace)
-            .end()
+    fn write_json<S: JsonSink>(&self, out: &mut S) -> Result<(), S::Error> {
+        out.begin_object()?;
+        write_some(out, "insertFinalNewline", &self.insert_final_newline)?;
+        write_member(out, "insertSpaces", &self.insert_spaces)?;
+        write_member(out, "tabSize", &self.tab_size)?;
+        write_some(out, "trimFinalNewlines", &self.trim_final_newlines)?;
+        write_some(
+            out,
+            "trimTrailingWhitespace",
+            &self.trim_trailing_whitespace,
+        )?;
+        out.end_object()
     }
 }
 
@@ -1211,12 +1091,12 @@ impl ToJson for DocumentFormattingParams {
         ∷ (codes "textDocument", Some (⟦<TextDocumentIdentifier as ToJson>⟧.stands it.text_document))
         ∷ (codes "workDoneToken", option_map ⟦<ProgressToken as ToJson>⟧.stands it.work_done_token) ∷ []) };
 
-    fn to_json(&self, alloc: Global) -> Result<Value, AllocError> {
-        Object::new(alloc)
-            .member("options", &self.options)
-            .member("textDocument", &self.text_document)
-            .some("workDoneToken", &self.work_done_token)
-            .end()
+    fn write_json<S: JsonSink>(&self, out: &mut S) -> Result<(), S::Error> {
+        out.begin_object()?;
+        write_member(out, "options", &self.options)?;
+        write_member(out, "textDocument", &self.text_document)?;
+        write_some(out, "workDoneToken", &self.work_done_token)?;
+        out.end_object()
     }
 }
 
@@ -1267,13 +1147,13 @@ impl ToJson for DocumentRangeFormattingParams {
         ∷ (codes "textDocument", Some (⟦<TextDocumentIdentifier as ToJson>⟧.stands it.text_document))
         ∷ (codes "workDoneToken", option_map ⟦<ProgressToken as ToJson>⟧.stands it.work_done_token) ∷ []) };
 
-    fn to_json(&self, alloc: Global) -> Result<Value, AllocError> {
-        Object::new(alloc)
-            .member("options", &self.options)
-            .member("range", &self.range)
-            .member("textDocument", &self.text_document)
-            .some("workDoneToken", &self.work_done_token)
-            .end()
+    fn write_json<S: JsonSink>(&self, out: &mut S) -> Result<(), S::Error> {
+        out.begin_object()?;
+        write_member(out, "options", &self.options)?;
+        write_member(out, "range", &self.range)?;
+        write_member(out, "textDocument", &self.text_document)?;
+        write_some(out, "workDoneToken", &self.work_done_token)?;
+        out.end_object()
     }
 }
 
@@ -1330,13 +1210,13 @@ impl ToJson for DocumentOnTypeFormattingParams {
         ∷ (codes "position", Some (⟦<Position as ToJson>⟧.stands it.position))
         ∷ (codes "textDocument", Some (⟦<TextDocumentIdentifier as ToJson>⟧.stands it.text_document)) ∷ []) };
 
-    fn to_json(&self, alloc: Global) -> Result<Value, AllocError> {
-        Object::new(alloc)
-            .member("ch", &self.ch)
-            .member("options", &self.options)
-            .member("position", &self.position)
-            .member("textDocument", &self.text_document)
-            .end()
+    fn write_json<S: JsonSink>(&self, out: &mut S) -> Result<(), S::Error> {
+        out.begin_object()?;
+        write_member(out, "ch", &self.ch)?;
+        write_member(out, "options", &self.options)?;
+        write_member(out, "position", &self.position)?;
+        write_member(out, "textDocument", &self.text_document)?;
+        out.end_object()
     }
 }
 

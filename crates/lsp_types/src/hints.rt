@@ -10,13 +10,15 @@ use crate::documents::Location;
 use crate::edits::TextEdit;
 use crate::hovers::Documentation;
 use crate::json::{
-    FromJson, Members, Misfit, Object, ToJson, fitting, number_within, write_member, write_some,
+    FromJson, KnownMembers, Members, Misfit, ToJson, fitting, number_within, write_member,
+    write_some, write_with,
 };
 use crate::workspace::Command;
-use lsp_json::{JsonRef, JsonWriteError, JsonWriter};
+use lsp_json::JsonRef;
+use lsp_json_write::JsonSink;
 use lsp_text::Position;
 use serde_json::Value;
-use std::alloc::{AllocError, Global};
+use std::alloc::Global;
 
 /// What a hint is about (LSP 3.17, "InlayHintKind"). On reading, another number is refused.
 #[derive(Clone, Copy, Drop)]
@@ -32,12 +34,8 @@ impl InlayHintKind {
 impl ToJson for InlayHintKind {
     ghost stands = { λ it. number (unsigned it.0) };
 
-    fn to_json(&self, alloc: Global) -> Result<Value, AllocError> {
-        self.0.to_json(alloc)
-    }
-
-    fn write_json(&self, alloc: Global, out: &mut JsonWriter) -> Result<(), JsonWriteError> {
-        self.0.write_json(alloc, out)
+    fn write_json<S: JsonSink>(&self, out: &mut S) -> Result<(), S::Error> {
+        self.0.write_json(out)
     }
 }
 
@@ -93,21 +91,12 @@ impl ToJson for InlayHintLabelPart {
         ∷ (codes "tooltip", option_map ⟦<Documentation as ToJson>⟧.stands it.tooltip)
         ∷ (codes "value", Some (⟦<String as ToJson>⟧.stands it.value)) ∷ []) };
 
-    fn to_json(&self, alloc: Global) -> Result<Value, AllocError> {
-        Object::new(alloc)
-            .some("command", &self.command)
-            .some("location", &self.location)
-            .some("tooltip", &self.tooltip)
-            .member("value", &self.value)
-            .end()
-    }
-
-    fn write_json(&self, alloc: Global, out: &mut JsonWriter) -> Result<(), JsonWriteError> {
+    fn write_json<S: JsonSink>(&self, out: &mut S) -> Result<(), S::Error> {
         out.begin_object()?;
-        write_some(alloc, out, "command", &self.command)?;
-        write_some(alloc, out, "location", &self.location)?;
-        write_some(alloc, out, "tooltip", &self.tooltip)?;
-        write_member(alloc, out, "value", &self.value)?;
+        write_some(out, "command", &self.command)?;
+        write_some(out, "location", &self.location)?;
+        write_some(out, "tooltip", &self.tooltip)?;
+        write_member(out, "value", &self.value)?;
         out.end_object()
     }
 }
@@ -158,17 +147,10 @@ impl ToJson for InlayHintLabel {
       | Parts it ↦ ⟦<Vec<InlayHintLabelPart> as ToJson>⟧.stands it
     ] };
 
-    fn to_json(&self, alloc: Global) -> Result<Value, AllocError> {
+    fn write_json<S: JsonSink>(&self, out: &mut S) -> Result<(), S::Error> {
         match self {
-            InlayHintLabel::Text(it) => it.to_json(alloc),
-            InlayHintLabel::Parts(it) => it.to_json(alloc),
-        }
-    }
-
-    fn write_json(&self, alloc: Global, out: &mut JsonWriter) -> Result<(), JsonWriteError> {
-        match self {
-            InlayHintLabel::Text(it) => it.write_json(alloc, out),
-            InlayHintLabel::Parts(it) => it.write_json(alloc, out),
+            InlayHintLabel::Text(it) => it.write_json(out),
+            InlayHintLabel::Parts(it) => it.write_json(out),
         }
     }
 }
@@ -249,46 +231,35 @@ impl InlayHint {
     }
 }
 
-impl ToJson for InlayHint {
-    ghost stands = { λ it. object_with (
-        (codes "data", option_map ⟦<Value as ToJson>⟧.stands it.«data»)
+impl KnownMembers for InlayHint {
+    ghost known = { λ it. (codes "data", option_map ⟦<Value as ToJson>⟧.stands it.«data»)
         ∷ (codes "kind", option_map ⟦<InlayHintKind as ToJson>⟧.stands it.kind)
         ∷ (codes "label", Some (⟦<InlayHintLabel as ToJson>⟧.stands it.label))
         ∷ (codes "paddingLeft", option_map ⟦<bool as ToJson>⟧.stands it.padding_left)
         ∷ (codes "paddingRight", option_map ⟦<bool as ToJson>⟧.stands it.padding_right)
         ∷ (codes "position", Some (⟦<Position as ToJson>⟧.stands it.position))
         ∷ (codes "textEdits", option_map ⟦<Vec<TextEdit> as ToJson>⟧.stands it.text_edits)
-        ∷ (codes "tooltip", option_map ⟦<Documentation as ToJson>⟧.stands it.tooltip) ∷ []) (option_map view it.more) };
+        ∷ (codes "tooltip", option_map ⟦<Documentation as ToJson>⟧.stands it.tooltip) ∷ [] };
 
-    fn to_json(&self, alloc: Global) -> Result<Value, AllocError> {
-        Object::new(alloc)
-            .some("data", &self.data)
-            .some("kind", &self.kind)
-            .member("label", &self.label)
-            .some("paddingLeft", &self.padding_left)
-            .some("paddingRight", &self.padding_right)
-            .member("position", &self.position)
-            .some("textEdits", &self.text_edits)
-            .some("tooltip", &self.tooltip)
-            .rest(&self.more)
-            .end()
-    }
-
-    fn write_json(&self, alloc: Global, out: &mut JsonWriter) -> Result<(), JsonWriteError> {
-        if self.more.is_some() {
-            let tree = self.to_json(alloc)?;
-            return out.value(&tree);
-        }
+    fn write_known<S: JsonSink>(&self, out: &mut S) -> Result<(), S::Error> {
         out.begin_object()?;
-        write_some(alloc, out, "data", &self.data)?;
-        write_some(alloc, out, "kind", &self.kind)?;
-        write_member(alloc, out, "label", &self.label)?;
-        write_some(alloc, out, "paddingLeft", &self.padding_left)?;
-        write_some(alloc, out, "paddingRight", &self.padding_right)?;
-        write_member(alloc, out, "position", &self.position)?;
-        write_some(alloc, out, "textEdits", &self.text_edits)?;
-        write_some(alloc, out, "tooltip", &self.tooltip)?;
+        write_some(out, "data", &self.data)?;
+        write_some(out, "kind", &self.kind)?;
+        write_member(out, "label", &self.label)?;
+        write_some(out, "paddingLeft", &self.padding_left)?;
+        write_some(out, "paddingRight", &self.padding_right)?;
+        write_member(out, "position", &self.position)?;
+        write_some(out, "textEdits", &self.text_edits)?;
+        write_some(out, "tooltip", &self.tooltip)?;
         out.end_object()
+    }
+}
+
+impl ToJson for InlayHint {
+    ghost stands = { λ it. object_with (⟦<InlayHint as KnownMembers>⟧.known it) (option_map view it.more) };
+
+    fn write_json<S: JsonSink>(&self, out: &mut S) -> Result<(), S::Error> {
+        write_with(out, self, &self.more)
     }
 }
 

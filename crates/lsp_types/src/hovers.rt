@@ -5,11 +5,11 @@ ghost use Rattle.lsp_types.specs.Json.{object_of};
 ghost use Rattle.lsp_types.specs.Reads.{IsObject, NoneReads, Optional, Required, ◌and◌};
 
 use crate::choices::MarkupKind;
-use crate::json::{FromJson, Members, Misfit, Object, ToJson, fitting, write_member, write_some};
-use lsp_json::{JsonRef, JsonWriteError, JsonWriter};
+use crate::json::{FromJson, Members, Misfit, ToJson, fitting, write_member, write_some};
+use lsp_json::JsonRef;
+use lsp_json_write::JsonSink;
 use lsp_text::Range;
-use serde_json::Value;
-use std::alloc::{AllocError, Global};
+use std::alloc::Global;
 
 /// A text to show (LSP 3.17, "MarkupContent").
 #[derive(Drop)]
@@ -25,17 +25,10 @@ impl ToJson for MarkupContent {
         (codes "kind", Some (⟦<MarkupKind as ToJson>⟧.stands it.kind))
         ∷ (codes "value", Some (⟦<String as ToJson>⟧.stands it.value)) ∷ []) };
 
-    fn to_json(&self, alloc: Global) -> Result<Value, AllocError> {
-        Object::new(alloc)
-            .member("kind", &self.kind)
-            .member("value", &self.value)
-            .end()
-    }
-
-    fn write_json(&self, alloc: Global, out: &mut JsonWriter) -> Result<(), JsonWriteError> {
+    fn write_json<S: JsonSink>(&self, out: &mut S) -> Result<(), S::Error> {
         out.begin_object()?;
-        write_member(alloc, out, "kind", &self.kind)?;
-        write_member(alloc, out, "value", &self.value)?;
+        write_member(out, "kind", &self.kind)?;
+        write_member(out, "value", &self.value)?;
         out.end_object()
     }
 }
@@ -77,17 +70,10 @@ impl ToJson for Documentation {
       | Markup it ↦ ⟦<MarkupContent as ToJson>⟧.stands it
     ] };
 
-    fn to_json(&self, alloc: Global) -> Result<Value, AllocError> {
+    fn write_json<S: JsonSink>(&self, out: &mut S) -> Result<(), S::Error> {
         match self {
-            Documentation::Text(it) => it.to_json(alloc),
-            Documentation::Markup(it) => it.to_json(alloc),
-        }
-    }
-
-    fn write_json(&self, alloc: Global, out: &mut JsonWriter) -> Result<(), JsonWriteError> {
-        match self {
-            Documentation::Text(it) => it.write_json(alloc, out),
-            Documentation::Markup(it) => it.write_json(alloc, out),
+            Documentation::Text(it) => it.write_json(out),
+            Documentation::Markup(it) => it.write_json(out),
         }
     }
 }
@@ -125,17 +111,10 @@ impl ToJson for LanguageString {
         (codes "language", Some (⟦<String as ToJson>⟧.stands it.language))
         ∷ (codes "value", Some (⟦<String as ToJson>⟧.stands it.value)) ∷ []) };
 
-    fn to_json(&self, alloc: Global) -> Result<Value, AllocError> {
-        Object::new(alloc)
-            .member("language", &self.language)
-            .member("value", &self.value)
-            .end()
-    }
-
-    fn write_json(&self, alloc: Global, out: &mut JsonWriter) -> Result<(), JsonWriteError> {
+    fn write_json<S: JsonSink>(&self, out: &mut S) -> Result<(), S::Error> {
         out.begin_object()?;
-        write_member(alloc, out, "language", &self.language)?;
-        write_member(alloc, out, "value", &self.value)?;
+        write_member(out, "language", &self.language)?;
+        write_member(out, "value", &self.value)?;
         out.end_object()
     }
 }
@@ -177,17 +156,10 @@ impl ToJson for MarkedString {
       | Code it ↦ ⟦<LanguageString as ToJson>⟧.stands it
     ] };
 
-    fn to_json(&self, alloc: Global) -> Result<Value, AllocError> {
+    fn write_json<S: JsonSink>(&self, out: &mut S) -> Result<(), S::Error> {
         match self {
-            MarkedString::Text(it) => it.to_json(alloc),
-            MarkedString::Code(it) => it.to_json(alloc),
-        }
-    }
-
-    fn write_json(&self, alloc: Global, out: &mut JsonWriter) -> Result<(), JsonWriteError> {
-        match self {
-            MarkedString::Text(it) => it.write_json(alloc, out),
-            MarkedString::Code(it) => it.write_json(alloc, out),
+            MarkedString::Text(it) => it.write_json(out),
+            MarkedString::Code(it) => it.write_json(out),
         }
     }
 }
@@ -232,19 +204,11 @@ impl ToJson for HoverContents {
       | Markup it ↦ ⟦<MarkupContent as ToJson>⟧.stands it
     ] };
 
-    fn to_json(&self, alloc: Global) -> Result<Value, AllocError> {
+    fn write_json<S: JsonSink>(&self, out: &mut S) -> Result<(), S::Error> {
         match self {
-            HoverContents::Marked(it) => it.to_json(alloc),
-            HoverContents::Several(it) => it.to_json(alloc),
-            HoverContents::Markup(it) => it.to_json(alloc),
-        }
-    }
-
-    fn write_json(&self, alloc: Global, out: &mut JsonWriter) -> Result<(), JsonWriteError> {
-        match self {
-            HoverContents::Marked(it) => it.write_json(alloc, out),
-            HoverContents::Several(it) => it.write_json(alloc, out),
-            HoverContents::Markup(it) => it.write_json(alloc, out),
+            HoverContents::Marked(it) => it.write_json(out),
+            HoverContents::Several(it) => it.write_json(out),
+            HoverContents::Markup(it) => it.write_json(out),
         }
     }
 }
@@ -286,17 +250,10 @@ impl ToJson for Hover {
         (codes "contents", Some (⟦<HoverContents as ToJson>⟧.stands it.contents))
         ∷ (codes "range", option_map ⟦<Range as ToJson>⟧.stands it.range) ∷ []) };
 
-    fn to_json(&self, alloc: Global) -> Result<Value, AllocError> {
-        Object::new(alloc)
-            .member("contents", &self.contents)
-            .some("range", &self.range)
-            .end()
-    }
-
-    fn write_json(&self, alloc: Global, out: &mut JsonWriter) -> Result<(), JsonWriteError> {
+    fn write_json<S: JsonSink>(&self, out: &mut S) -> Result<(), S::Error> {
         out.begin_object()?;
-        write_member(alloc, out, "contents", &self.contents)?;
-        write_some(alloc, out, "range", &self.range)?;
+        write_member(out, "contents", &self.contents)?;
+        write_some(out, "range", &self.range)?;
         out.end_object()
     }
 }

@@ -6,12 +6,13 @@ ghost use Rattle.lsp_types.specs.Reads.{IfFits, IsObject, Optional, Required, �
 
 use crate::capabilities::ServerCapabilities;
 use crate::choices::NumberOrString;
-use crate::json::{FromJson, Members, Misfit, Object, ToJson, write_member, write_some};
+use crate::json::{FromJson, Members, Misfit, ToJson, write_member, write_some};
 use crate::progress::ProgressToken;
 use crate::workspace::WorkspaceFolder;
-use lsp_json::{JsonRef, JsonWriteError, JsonWriter};
+use lsp_json::JsonRef;
+use lsp_json_write::JsonSink;
 use serde_json::Value;
-use std::alloc::{AllocError, Global};
+use std::alloc::Global;
 
 /// The params of `initialize`, as far as most servers read them (LSP 3.17, "Initialize Request").
 #[derive(Drop)]
@@ -51,19 +52,19 @@ impl ToJson for InitializeParams {
         ∷ (codes "workDoneToken", option_map ⟦<ProgressToken as ToJson>⟧.stands it.work_done_token)
         ∷ (codes "workspaceFolders", option_map ⟦<Vec<WorkspaceFolder> as ToJson>⟧.stands it.workspace_folders) ∷ []) };
 
-    fn to_json(&self, alloc: Global) -> Result<Value, AllocError> {
-        Object::new(alloc)
-            .member("capabilities", &self.capabilities)
-            .some("clientInfo", &self.client_info)
-            .some("initializationOptions", &self.initialization_options)
-            .some("locale", &self.locale)
-            .member("processId", &self.process_id)
-            .some("rootPath", &self.root_path)
-            .member("rootUri", &self.root_uri)
-            .some("trace", &self.trace)
-            .some("workDoneToken", &self.work_done_token)
-            .some("workspaceFolders", &self.workspace_folders)
-            .end()
+    fn write_json<S: JsonSink>(&self, out: &mut S) -> Result<(), S::Error> {
+        out.begin_object()?;
+        write_member(out, "capabilities", &self.capabilities)?;
+        write_some(out, "clientInfo", &self.client_info)?;
+        write_some(out, "initializationOptions", &self.initialization_options)?;
+        write_some(out, "locale", &self.locale)?;
+        write_member(out, "processId", &self.process_id)?;
+        write_some(out, "rootPath", &self.root_path)?;
+        write_member(out, "rootUri", &self.root_uri)?;
+        write_some(out, "trace", &self.trace)?;
+        write_some(out, "workDoneToken", &self.work_done_token)?;
+        write_some(out, "workspaceFolders", &self.workspace_folders)?;
+        out.end_object()
     }
 }
 
@@ -154,17 +155,10 @@ impl ToJson for ServerInfo {
         (codes "name", Some (⟦<String as ToJson>⟧.stands it.name))
         ∷ (codes "version", option_map ⟦<String as ToJson>⟧.stands it.version) ∷ []) };
 
-    fn to_json(&self, alloc: Global) -> Result<Value, AllocError> {
-        Object::new(alloc)
-            .member("name", &self.name)
-            .some("version", &self.version)
-            .end()
-    }
-
-    fn write_json(&self, alloc: Global, out: &mut JsonWriter) -> Result<(), JsonWriteError> {
+    fn write_json<S: JsonSink>(&self, out: &mut S) -> Result<(), S::Error> {
         out.begin_object()?;
-        write_member(alloc, out, "name", &self.name)?;
-        write_some(alloc, out, "version", &self.version)?;
+        write_member(out, "name", &self.name)?;
+        write_some(out, "version", &self.version)?;
         out.end_object()
     }
 }
@@ -206,17 +200,10 @@ impl ToJson for InitializeResult {
         (codes "capabilities", Some (⟦<ServerCapabilities as ToJson>⟧.stands it.capabilities))
         ∷ (codes "serverInfo", option_map ⟦<ServerInfo as ToJson>⟧.stands it.server_info) ∷ []) };
 
-    fn to_json(&self, alloc: Global) -> Result<Value, AllocError> {
-        Object::new(alloc)
-            .member("capabilities", &self.capabilities)
-            .some("serverInfo", &self.server_info)
-            .end()
-    }
-
-    fn write_json(&self, alloc: Global, out: &mut JsonWriter) -> Result<(), JsonWriteError> {
+    fn write_json<S: JsonSink>(&self, out: &mut S) -> Result<(), S::Error> {
         out.begin_object()?;
-        write_member(alloc, out, "capabilities", &self.capabilities)?;
-        write_some(alloc, out, "serverInfo", &self.server_info)?;
+        write_member(out, "capabilities", &self.capabilities)?;
+        write_some(out, "serverInfo", &self.server_info)?;
         out.end_object()
     }
 }
@@ -255,8 +242,10 @@ impl ToJson for SetTraceParams {
     ghost stands = { λ it. object_of (
         (codes "value", Some (⟦<String as ToJson>⟧.stands it.value)) ∷ []) };
 
-    fn to_json(&self, alloc: Global) -> Result<Value, AllocError> {
-        Object::new(alloc).member("value", &self.value).end()
+    fn write_json<S: JsonSink>(&self, out: &mut S) -> Result<(), S::Error> {
+        out.begin_object()?;
+        write_member(out, "value", &self.value)?;
+        out.end_object()
     }
 }
 
@@ -306,11 +295,11 @@ impl ToJson for LogTraceParams {
         (codes "message", Some (⟦<String as ToJson>⟧.stands it.message))
         ∷ (codes "verbose", option_map ⟦<String as ToJson>⟧.stands it.verbose) ∷ []) };
 
-    fn to_json(&self, alloc: Global) -> Result<Value, AllocError> {
-        Object::new(alloc)
-            .member("message", &self.message)
-            .some("verbose", &self.verbose)
-            .end()
+    fn write_json<S: JsonSink>(&self, out: &mut S) -> Result<(), S::Error> {
+        out.begin_object()?;
+        write_member(out, "message", &self.message)?;
+        write_some(out, "verbose", &self.verbose)?;
+        out.end_object()
     }
 }
 
@@ -345,8 +334,10 @@ impl ToJson for CancelParams {
     ghost stands = { λ it. object_of (
         (codes "id", Some (⟦<NumberOrString as ToJson>⟧.stands it.id)) ∷ []) };
 
-    fn to_json(&self, alloc: Global) -> Result<Value, AllocError> {
-        Object::new(alloc).member("id", &self.id).end()
+    fn write_json<S: JsonSink>(&self, out: &mut S) -> Result<(), S::Error> {
+        out.begin_object()?;
+        write_member(out, "id", &self.id)?;
+        out.end_object()
     }
 }
 
@@ -401,12 +392,12 @@ impl ToJson for Registration {
         ∷ (codes "method", Some (⟦<String as ToJson>⟧.stands it.method))
         ∷ (codes "registerOptions", option_map ⟦<Value as ToJson>⟧.stands it.register_options) ∷ []) };
 
-    fn to_json(&self, alloc: Global) -> Result<Value, AllocError> {
-        Object::new(alloc)
-            .member("id", &self.id)
-            .member("method", &self.method)
-            .some("registerOptions", &self.register_options)
-            .end()
+    fn write_json<S: JsonSink>(&self, out: &mut S) -> Result<(), S::Error> {
+        out.begin_object()?;
+        write_member(out, "id", &self.id)?;
+        write_member(out, "method", &self.method)?;
+        write_some(out, "registerOptions", &self.register_options)?;
+        out.end_object()
     }
 }
 
@@ -447,10 +438,10 @@ impl ToJson for RegistrationParams {
     ghost stands = { λ it. object_of (
         (codes "registrations", Some (⟦<Vec<Registration> as ToJson>⟧.stands it.registrations)) ∷ []) };
 
-    fn to_json(&self, alloc: Global) -> Result<Value, AllocError> {
-        Object::new(alloc)
-            .member("registrations", &self.registrations)
-            .end()
+    fn write_json<S: JsonSink>(&self, out: &mut S) -> Result<(), S::Error> {
+        out.begin_object()?;
+        write_member(out, "registrations", &self.registrations)?;
+        out.end_object()
     }
 }
 
@@ -483,11 +474,11 @@ impl ToJson for Unregistration {
         (codes "id", Some (⟦<String as ToJson>⟧.stands it.id))
         ∷ (codes "method", Some (⟦<String as ToJson>⟧.stands it.method)) ∷ []) };
 
-    fn to_json(&self, alloc: Global) -> Result<Value, AllocError> {
-        Object::new(alloc)
-            .member("id", &self.id)
-            .member("method", &self.method)
-            .end()
+    fn write_json<S: JsonSink>(&self, out: &mut S) -> Result<(), S::Error> {
+        out.begin_object()?;
+        write_member(out, "id", &self.id)?;
+        write_member(out, "method", &self.method)?;
+        out.end_object()
     }
 }
 
@@ -522,10 +513,10 @@ impl ToJson for UnregistrationParams {
     ghost stands = { λ it. object_of (
         (codes "unregisterations", Some (⟦<Vec<Unregistration> as ToJson>⟧.stands it.unregisterations)) ∷ []) };
 
-    fn to_json(&self, alloc: Global) -> Result<Value, AllocError> {
-        Object::new(alloc)
-            .member("unregisterations", &self.unregisterations)
-            .end()
+    fn write_json<S: JsonSink>(&self, out: &mut S) -> Result<(), S::Error> {
+        out.begin_object()?;
+        write_member(out, "unregisterations", &self.unregisterations)?;
+        out.end_object()
     }
 }
 

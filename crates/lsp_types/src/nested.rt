@@ -1,73 +1,44 @@
 // How symbols are read and written that have others in them.
-ghost use Rattle.std.specs.Prelude.{◌≡◌, IfOk, OnOk, codes};
+ghost use Rattle.std.specs.Prelude.{OnOk, codes};
 ghost use Rattle.serde_json.specs.Find.{get};
-ghost use Rattle.serde_json.specs.View.{view};
 ghost use Rattle.lsp_json.specs.JsonRef.{json_data};
-ghost use Rattle.lsp_json.specs.Writer.{Wrote};
+ghost use Rattle.lsp_json_write.specs.Taken.{Steps, with_value};
 ghost use Rattle.lsp_types.specs.Reads.{EachItem, InSome, ReadsAs, but_null};
 ghost use Rattle.lsp_types.specs.Symbols.{IsSymbolWithin, items_or_none};
 ghost use Rattle.lsp_types.specs.Written.{document_symbol};
 
-use crate::json::{FromJson, Members, Misfit, Object, ToJson, present, write_member, write_some};
+use crate::json::{FromJson, Members, Misfit, ToJson, present, write_member, write_some};
 use crate::symbols::DocumentSymbol;
-use lsp_json::{JsonRef, JsonWriteError, JsonWriter};
-use serde_json::Value;
-use std::alloc::{AllocError, Global};
+use lsp_json::JsonRef;
+use lsp_json_write::JsonSink;
+use std::alloc::Global;
 
 impl ToJson for DocumentSymbol {
     ghost stands = { document_symbol };
 
-    fn to_json(&self, alloc: Global) -> Result<Value, AllocError> {
-        symbol_to_json(alloc, self)
-    }
-
-    fn write_json(&self, alloc: Global, out: &mut JsonWriter) -> Result<(), JsonWriteError> {
-        write_symbol(alloc, out, self)
+    fn write_json<S: JsonSink>(&self, out: &mut S) -> Result<(), S::Error> {
+        write_symbol(out, self)
     }
 }
 
-/// Writes a symbol, with those inside it.
-fn symbol_to_json(alloc: Global, symbol: &DocumentSymbol) -> Result<Value, AllocError>
-    ensures { IfOk result (λ value. view value ≡ document_symbol symbol.now) }
-{
-    let mut children = Vec::new(alloc);
-    for child in &symbol.children {
-        children.push(symbol_to_json(alloc, child)?)?;
-    }
-    Object::new(alloc)
-        .list("children", children)
-        .some("deprecated", &symbol.deprecated)
-        .some("detail", &symbol.detail)
-        .member("kind", &symbol.kind)
-        .member("name", &symbol.name)
-        .member("range", &symbol.range)
-        .member("selectionRange", &symbol.selection_range)
-        .some("tags", &symbol.tags)
-        .end()
-}
-
-/// Writes a symbol as text, with those inside it.
-fn write_symbol(
-    alloc: Global,
-    out: &mut JsonWriter,
-    symbol: &DocumentSymbol,
-) -> Result<(), JsonWriteError>
-    ensures { OnOk result (Wrote (document_symbol symbol.now) out.old out.new) }
+/// Writes a symbol, with those inside it. The error is that of the sink.
+fn write_symbol<S: JsonSink>(out: &mut S, symbol: &DocumentSymbol) -> Result<(), S::Error>
+    ensures { OnOk result (Steps S.holds (with_value (document_symbol symbol.now)) out.old out.new) }
 {
     out.begin_object()?;
     out.key("children")?;
     out.begin_array()?;
     for child in &symbol.children {
-        write_symbol(alloc, out, child)?;
+        write_symbol(out, child)?;
     }
     out.end_array()?;
-    write_some(alloc, out, "deprecated", &symbol.deprecated)?;
-    write_some(alloc, out, "detail", &symbol.detail)?;
-    write_member(alloc, out, "kind", &symbol.kind)?;
-    write_member(alloc, out, "name", &symbol.name)?;
-    write_member(alloc, out, "range", &symbol.range)?;
-    write_member(alloc, out, "selectionRange", &symbol.selection_range)?;
-    write_some(alloc, out, "tags", &symbol.tags)?;
+    write_some(out, "deprecated", &symbol.deprecated)?;
+    write_some(out, "detail", &symbol.detail)?;
+    write_member(out, "kind", &symbol.kind)?;
+    write_member(out, "name", &symbol.name)?;
+    write_member(out, "range", &symbol.range)?;
+    write_member(out, "selectionRange", &symbol.selection_range)?;
+    write_some(out, "tags", &symbol.tags)?;
     out.end_object()
 }
 

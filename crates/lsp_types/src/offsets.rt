@@ -6,9 +6,9 @@ ghost use Rattle.lsp_json.specs.JsonRef.{json_data};
 ghost use Rattle.lsp_types.specs.Reads.{EachItem, InSome, IsWhole};
 
 use crate::json::{FromJson, Misfit, ToJson};
-use lsp_json::{JsonRef, JsonWriteError, JsonWriter};
-use serde_json::Value;
-use std::alloc::{AllocError, Global};
+use lsp_json::JsonRef;
+use lsp_json_write::JsonSink;
+use std::alloc::Global;
 
 /// The place of a part of a text in it, in units of UTF-16 from 0 (LSP 3.17, "ParameterInformation"). It is a list of
 /// two numbers.
@@ -52,15 +52,10 @@ fn two_items<'v>(value: &JsonRef<'v>) -> Option<(JsonRef<'v>, JsonRef<'v>)>
 impl ToJson for LabelOffsets {
     ghost stands = { λ it. array (item (number (unsigned it.start)) (item (number (unsigned it.end)) no_items)) };
 
-    fn to_json(&self, alloc: Global) -> Result<Value, AllocError> {
-        let numbers = vec![in alloc; Value::from(self.start), Value::from(self.end)]?;
-        Ok(Value::Array(numbers))
-    }
-
-    fn write_json(&self, alloc: Global, out: &mut JsonWriter) -> Result<(), JsonWriteError> {
+    fn write_json<S: JsonSink>(&self, out: &mut S) -> Result<(), S::Error> {
         out.begin_array()?;
-        self.start.write_json(alloc, out)?;
-        self.end.write_json(alloc, out)?;
+        self.start.write_json(out)?;
+        self.end.write_json(out)?;
         out.end_array()
     }
 }

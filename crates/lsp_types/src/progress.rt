@@ -6,10 +6,10 @@ ghost use Rattle.lsp_types.specs.Json.{object_of};
 ghost use Rattle.lsp_types.specs.Reads.{IsObject, Named, Optional, Required, ◌and◌};
 
 use crate::choices::NumberOrString;
-use crate::json::{FromJson, Members, Misfit, Object, ToJson};
+use crate::json::{FromJson, Members, Misfit, ToJson, write_member, write_some, write_text};
 use lsp_json::JsonRef;
-use serde_json::Value;
-use std::alloc::{AllocError, Global};
+use lsp_json_write::JsonSink;
+use std::alloc::Global;
 
 /// A token for progress, which whoever requests the progress chooses (LSP 3.17, "Progress Support").
 pub type ProgressToken = NumberOrString;
@@ -26,10 +26,10 @@ impl ToJson for WorkDoneProgressParams {
     ghost stands = { λ it. object_of (
         (codes "workDoneToken", option_map ⟦<ProgressToken as ToJson>⟧.stands it.work_done_token) ∷ []) };
 
-    fn to_json(&self, alloc: Global) -> Result<Value, AllocError> {
-        Object::new(alloc)
-            .some("workDoneToken", &self.work_done_token)
-            .end()
+    fn write_json<S: JsonSink>(&self, out: &mut S) -> Result<(), S::Error> {
+        out.begin_object()?;
+        write_some(out, "workDoneToken", &self.work_done_token)?;
+        out.end_object()
     }
 }
 
@@ -59,8 +59,10 @@ impl ToJson for WorkDoneProgressCreateParams {
     ghost stands = { λ it. object_of (
         (codes "token", Some (⟦<ProgressToken as ToJson>⟧.stands it.token)) ∷ []) };
 
-    fn to_json(&self, alloc: Global) -> Result<Value, AllocError> {
-        Object::new(alloc).member("token", &self.token).end()
+    fn write_json<S: JsonSink>(&self, out: &mut S) -> Result<(), S::Error> {
+        out.begin_object()?;
+        write_member(out, "token", &self.token)?;
+        out.end_object()
     }
 }
 
@@ -100,11 +102,11 @@ impl<T: ToJson> ToJson for ProgressParams<T> {
         (codes "token", Some (⟦<ProgressToken as ToJson>⟧.stands it.token))
         ∷ (codes "value", Some (T.stands it.value)) ∷ []) };
 
-    fn to_json(&self, alloc: Global) -> Result<Value, AllocError> {
-        Object::new(alloc)
-            .member("token", &self.token)
-            .member("value", &self.value)
-            .end()
+    fn write_json<S: JsonSink>(&self, out: &mut S) -> Result<(), S::Error> {
+        out.begin_object()?;
+        write_member(out, "token", &self.token)?;
+        write_member(out, "value", &self.value)?;
+        out.end_object()
     }
 }
 
@@ -170,14 +172,14 @@ impl ToJson for WorkDoneProgressBegin {
         ∷ (codes "percentage", option_map ⟦<u32 as ToJson>⟧.stands it.percentage)
         ∷ (codes "title", Some (⟦<String as ToJson>⟧.stands it.title)) ∷ []) };
 
-    fn to_json(&self, alloc: Global) -> Result<Value, AllocError> {
-        Object::new(alloc)
-            .some("cancellable", &self.cancellable)
-            .text("kind", "begin")
-            .some("message", &self.message)
-            .some("percentage", &self.percentage)
-            .member("title", &self.title)
-            .end()
+    fn write_json<S: JsonSink>(&self, out: &mut S) -> Result<(), S::Error> {
+        out.begin_object()?;
+        write_some(out, "cancellable", &self.cancellable)?;
+        write_text(out, "kind", "begin")?;
+        write_some(out, "message", &self.message)?;
+        write_some(out, "percentage", &self.percentage)?;
+        write_member(out, "title", &self.title)?;
+        out.end_object()
     }
 }
 
@@ -249,13 +251,13 @@ impl ToJson for WorkDoneProgressReport {
         ∷ (codes "message", option_map ⟦<String as ToJson>⟧.stands it.message)
         ∷ (codes "percentage", option_map ⟦<u32 as ToJson>⟧.stands it.percentage) ∷ []) };
 
-    fn to_json(&self, alloc: Global) -> Result<Value, AllocError> {
-        Object::new(alloc)
-            .some("cancellable", &self.cancellable)
-            .text("kind", "report")
-            .some("message", &self.message)
-            .some("percentage", &self.percentage)
-            .end()
+    fn write_json<S: JsonSink>(&self, out: &mut S) -> Result<(), S::Error> {
+        out.begin_object()?;
+        write_some(out, "cancellable", &self.cancellable)?;
+        write_text(out, "kind", "report")?;
+        write_some(out, "message", &self.message)?;
+        write_some(out, "percentage", &self.percentage)?;
+        out.end_object()
     }
 }
 
@@ -312,11 +314,11 @@ impl ToJson for WorkDoneProgressEnd {
         (codes "kind", Some (string (codes "end")))
         ∷ (codes "message", option_map ⟦<String as ToJson>⟧.stands it.message) ∷ []) };
 
-    fn to_json(&self, alloc: Global) -> Result<Value, AllocError> {
-        Object::new(alloc)
-            .text("kind", "end")
-            .some("message", &self.message)
-            .end()
+    fn write_json<S: JsonSink>(&self, out: &mut S) -> Result<(), S::Error> {
+        out.begin_object()?;
+        write_text(out, "kind", "end")?;
+        write_some(out, "message", &self.message)?;
+        out.end_object()
     }
 }
 

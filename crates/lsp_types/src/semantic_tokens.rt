@@ -4,10 +4,10 @@ ghost use Rattle.std.specs.Prelude.{◌∷◌, [], Some, codes, option_map};
 ghost use Rattle.lsp_types.specs.Json.{object_of};
 ghost use Rattle.lsp_types.specs.Reads.{IsObject, Optional, Required, ◌and◌};
 
-use crate::json::{FromJson, Members, Misfit, Object, ToJson, write_member, write_some};
-use lsp_json::{JsonRef, JsonWriteError, JsonWriter};
-use serde_json::Value;
-use std::alloc::{AllocError, Global};
+use crate::json::{FromJson, Members, Misfit, ToJson, write_member, write_some};
+use lsp_json::JsonRef;
+use lsp_json_write::JsonSink;
+use std::alloc::Global;
 
 /// The result of `textDocument/semanticTokens/full` and `/range`, or null (LSP 3.17, "Semantic Tokens").
 #[derive(Drop)]
@@ -23,17 +23,10 @@ impl ToJson for SemanticTokens {
         (codes "data", Some (⟦<Vec<u32> as ToJson>⟧.stands it.«data»))
         ∷ (codes "resultId", option_map ⟦<String as ToJson>⟧.stands it.result_id) ∷ []) };
 
-    fn to_json(&self, alloc: Global) -> Result<Value, AllocError> {
-        Object::new(alloc)
-            .member("data", &self.data)
-            .some("resultId", &self.result_id)
-            .end()
-    }
-
-    fn write_json(&self, alloc: Global, out: &mut JsonWriter) -> Result<(), JsonWriteError> {
+    fn write_json<S: JsonSink>(&self, out: &mut S) -> Result<(), S::Error> {
         out.begin_object()?;
-        write_member(alloc, out, "data", &self.data)?;
-        write_some(alloc, out, "resultId", &self.result_id)?;
+        write_member(out, "data", &self.data)?;
+        write_some(out, "resultId", &self.result_id)?;
         out.end_object()
     }
 }

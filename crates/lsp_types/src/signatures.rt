@@ -8,14 +8,14 @@ ghost use Rattle.lsp_types.specs.Reads.{IfFits, IsObject, IsWithin, NoneReads, O
 use crate::documents::TextDocumentIdentifier;
 use crate::hovers::Documentation;
 use crate::json::{
-    FromJson, Members, Misfit, Object, ToJson, fitting, number_within, write_member, write_some,
+    FromJson, Members, Misfit, ToJson, fitting, number_within, write_member, write_some,
 };
 use crate::offsets::LabelOffsets;
 use crate::progress::ProgressToken;
-use lsp_json::{JsonRef, JsonWriteError, JsonWriter};
+use lsp_json::JsonRef;
+use lsp_json_write::JsonSink;
 use lsp_text::Position;
-use serde_json::Value;
-use std::alloc::{AllocError, Global};
+use std::alloc::Global;
 
 /// The result of `textDocument/signatureHelp` (LSP 3.17, "Signature Help Request").
 #[derive(Drop)]
@@ -53,19 +53,11 @@ impl ToJson for SignatureHelp {
         ∷ (codes "activeSignature", option_map ⟦<u32 as ToJson>⟧.stands it.active_signature)
         ∷ (codes "signatures", Some (⟦<Vec<SignatureInformation> as ToJson>⟧.stands it.signatures)) ∷ []) };
 
-    fn to_json(&self, alloc: Global) -> Result<Value, AllocError> {
-        Object::new(alloc)
-            .some("activeParameter", &self.active_parameter)
-            .some("activeSignature", &self.active_signature)
-            .member("signatures", &self.signatures)
-            .end()
-    }
-
-    fn write_json(&self, alloc: Global, out: &mut JsonWriter) -> Result<(), JsonWriteError> {
+    fn write_json<S: JsonSink>(&self, out: &mut S) -> Result<(), S::Error> {
         out.begin_object()?;
-        write_some(alloc, out, "activeParameter", &self.active_parameter)?;
-        write_some(alloc, out, "activeSignature", &self.active_signature)?;
-        write_member(alloc, out, "signatures", &self.signatures)?;
+        write_some(out, "activeParameter", &self.active_parameter)?;
+        write_some(out, "activeSignature", &self.active_signature)?;
+        write_member(out, "signatures", &self.signatures)?;
         out.end_object()
     }
 }
@@ -137,21 +129,12 @@ impl ToJson for SignatureInformation {
         ∷ (codes "label", Some (⟦<String as ToJson>⟧.stands it.label))
         ∷ (codes "parameters", option_map ⟦<Vec<ParameterInformation> as ToJson>⟧.stands it.parameters) ∷ []) };
 
-    fn to_json(&self, alloc: Global) -> Result<Value, AllocError> {
-        Object::new(alloc)
-            .some("activeParameter", &self.active_parameter)
-            .some("documentation", &self.documentation)
-            .member("label", &self.label)
-            .some("parameters", &self.parameters)
-            .end()
-    }
-
-    fn write_json(&self, alloc: Global, out: &mut JsonWriter) -> Result<(), JsonWriteError> {
+    fn write_json<S: JsonSink>(&self, out: &mut S) -> Result<(), S::Error> {
         out.begin_object()?;
-        write_some(alloc, out, "activeParameter", &self.active_parameter)?;
-        write_some(alloc, out, "documentation", &self.documentation)?;
-        write_member(alloc, out, "label", &self.label)?;
-        write_some(alloc, out, "parameters", &self.parameters)?;
+        write_some(out, "activeParameter", &self.active_parameter)?;
+        write_some(out, "documentation", &self.documentation)?;
+        write_member(out, "label", &self.label)?;
+        write_some(out, "parameters", &self.parameters)?;
         out.end_object()
     }
 }
@@ -202,17 +185,10 @@ impl ToJson for ParameterLabel {
       | Offsets it ↦ ⟦<LabelOffsets as ToJson>⟧.stands it
     ] };
 
-    fn to_json(&self, alloc: Global) -> Result<Value, AllocError> {
+    fn write_json<S: JsonSink>(&self, out: &mut S) -> Result<(), S::Error> {
         match self {
-            ParameterLabel::Text(it) => it.to_json(alloc),
-            ParameterLabel::Offsets(it) => it.to_json(alloc),
-        }
-    }
-
-    fn write_json(&self, alloc: Global, out: &mut JsonWriter) -> Result<(), JsonWriteError> {
-        match self {
-            ParameterLabel::Text(it) => it.write_json(alloc, out),
-            ParameterLabel::Offsets(it) => it.write_json(alloc, out),
+            ParameterLabel::Text(it) => it.write_json(out),
+            ParameterLabel::Offsets(it) => it.write_json(out),
         }
     }
 }
@@ -268,17 +244,10 @@ impl ToJson for ParameterInformation {
         (codes "documentation", option_map ⟦<Documentation as ToJson>⟧.stands it.documentation)
         ∷ (codes "label", Some (⟦<ParameterLabel as ToJson>⟧.stands it.label)) ∷ []) };
 
-    fn to_json(&self, alloc: Global) -> Result<Value, AllocError> {
-        Object::new(alloc)
-            .some("documentation", &self.documentation)
-            .member("label", &self.label)
-            .end()
-    }
-
-    fn write_json(&self, alloc: Global, out: &mut JsonWriter) -> Result<(), JsonWriteError> {
+    fn write_json<S: JsonSink>(&self, out: &mut S) -> Result<(), S::Error> {
         out.begin_object()?;
-        write_some(alloc, out, "documentation", &self.documentation)?;
-        write_member(alloc, out, "label", &self.label)?;
+        write_some(out, "documentation", &self.documentation)?;
+        write_member(out, "label", &self.label)?;
         out.end_object()
     }
 }
@@ -322,8 +291,8 @@ impl SignatureHelpTriggerKind {
 impl ToJson for SignatureHelpTriggerKind {
     ghost stands = { λ it. number (unsigned it.0) };
 
-    fn to_json(&self, alloc: Global) -> Result<Value, AllocError> {
-        self.0.to_json(alloc)
+    fn write_json<S: JsonSink>(&self, out: &mut S) -> Result<(), S::Error> {
+        self.0.write_json(out)
     }
 }
 
@@ -358,13 +327,13 @@ impl ToJson for SignatureHelpContext {
         ∷ (codes "triggerCharacter", option_map ⟦<String as ToJson>⟧.stands it.trigger_character)
         ∷ (codes "triggerKind", Some (⟦<SignatureHelpTriggerKind as ToJson>⟧.stands it.trigger_kind)) ∷ []) };
 
-    fn to_json(&self, alloc: Global) -> Result<Value, AllocError> {
-        Object::new(alloc)
-            .some("activeSignatureHelp", &self.active_signature_help)
-            .member("isRetrigger", &self.is_retrigger)
-            .some("triggerCharacter", &self.trigger_character)
-            .member("triggerKind", &self.trigger_kind)
-            .end()
+    fn write_json<S: JsonSink>(&self, out: &mut S) -> Result<(), S::Error> {
+        out.begin_object()?;
+        write_some(out, "activeSignatureHelp", &self.active_signature_help)?;
+        write_member(out, "isRetrigger", &self.is_retrigger)?;
+        write_some(out, "triggerCharacter", &self.trigger_character)?;
+        write_member(out, "triggerKind", &self.trigger_kind)?;
+        out.end_object()
     }
 }
 
@@ -420,13 +389,13 @@ impl ToJson for SignatureHelpParams {
         ∷ (codes "textDocument", Some (⟦<TextDocumentIdentifier as ToJson>⟧.stands it.text_document))
         ∷ (codes "workDoneToken", option_map ⟦<ProgressToken as ToJson>⟧.stands it.work_done_token) ∷ []) };
 
-    fn to_json(&self, alloc: Global) -> Result<Value, AllocError> {
-        Object::new(alloc)
-            .some("context", &self.context)
-            .member("position", &self.position)
-            .member("textDocument", &self.text_document)
-            .some("workDoneToken", &self.work_done_token)
-            .end()
+    fn write_json<S: JsonSink>(&self, out: &mut S) -> Result<(), S::Error> {
+        out.begin_object()?;
+        write_some(out, "context", &self.context)?;
+        write_member(out, "position", &self.position)?;
+        write_member(out, "textDocument", &self.text_document)?;
+        write_some(out, "workDoneToken", &self.work_done_token)?;
+        out.end_object()
     }
 }
 

@@ -8,13 +8,15 @@ ghost use Rattle.lsp_types.specs.Reads.{Beside, IfFits, IsObject, IsWithin, None
 
 use crate::documents::{Location, TextDocumentIdentifier};
 use crate::json::{
-    FromJson, Members, Misfit, Object, ToJson, fitting, number_within, write_member, write_some,
+    FromJson, KnownMembers, Members, Misfit, ToJson, fitting, number_within, write_member,
+    write_some, write_with,
 };
 use crate::progress::ProgressToken;
-use lsp_json::{JsonRef, JsonWriteError, JsonWriter};
+use lsp_json::JsonRef;
+use lsp_json_write::JsonSink;
 use lsp_text::Range;
 use serde_json::Value;
-use std::alloc::{AllocError, Global};
+use std::alloc::Global;
 
 /// What a symbol is (LSP 3.17, "SymbolKind"). On reading, another number is refused.
 #[derive(Clone, Copy, Drop)]
@@ -78,12 +80,8 @@ impl SymbolKind {
 impl ToJson for SymbolKind {
     ghost stands = { λ it. number (unsigned it.0) };
 
-    fn to_json(&self, alloc: Global) -> Result<Value, AllocError> {
-        self.0.to_json(alloc)
-    }
-
-    fn write_json(&self, alloc: Global, out: &mut JsonWriter) -> Result<(), JsonWriteError> {
-        self.0.write_json(alloc, out)
+    fn write_json<S: JsonSink>(&self, out: &mut S) -> Result<(), S::Error> {
+        self.0.write_json(out)
     }
 }
 
@@ -110,12 +108,8 @@ impl SymbolTag {
 impl ToJson for SymbolTag {
     ghost stands = { λ it. number (unsigned it.0) };
 
-    fn to_json(&self, alloc: Global) -> Result<Value, AllocError> {
-        self.0.to_json(alloc)
-    }
-
-    fn write_json(&self, alloc: Global, out: &mut JsonWriter) -> Result<(), JsonWriteError> {
-        self.0.write_json(alloc, out)
+    fn write_json<S: JsonSink>(&self, out: &mut S) -> Result<(), S::Error> {
+        self.0.write_json(out)
     }
 }
 
@@ -239,25 +233,14 @@ impl ToJson for SymbolInformation {
         ∷ (codes "name", Some (⟦<String as ToJson>⟧.stands it.name))
         ∷ (codes "tags", option_map ⟦<Vec<SymbolTag> as ToJson>⟧.stands it.tags) ∷ []) };
 
-    fn to_json(&self, alloc: Global) -> Result<Value, AllocError> {
-        Object::new(alloc)
-            .some("containerName", &self.container_name)
-            .some("deprecated", &self.deprecated)
-            .member("kind", &self.kind)
-            .member("location", &self.location)
-            .member("name", &self.name)
-            .some("tags", &self.tags)
-            .end()
-    }
-
-    fn write_json(&self, alloc: Global, out: &mut JsonWriter) -> Result<(), JsonWriteError> {
+    fn write_json<S: JsonSink>(&self, out: &mut S) -> Result<(), S::Error> {
         out.begin_object()?;
-        write_some(alloc, out, "containerName", &self.container_name)?;
-        write_some(alloc, out, "deprecated", &self.deprecated)?;
-        write_member(alloc, out, "kind", &self.kind)?;
-        write_member(alloc, out, "location", &self.location)?;
-        write_member(alloc, out, "name", &self.name)?;
-        write_some(alloc, out, "tags", &self.tags)?;
+        write_some(out, "containerName", &self.container_name)?;
+        write_some(out, "deprecated", &self.deprecated)?;
+        write_member(out, "kind", &self.kind)?;
+        write_member(out, "location", &self.location)?;
+        write_member(out, "name", &self.name)?;
+        write_some(out, "tags", &self.tags)?;
         out.end_object()
     }
 }
@@ -315,17 +298,10 @@ impl ToJson for DocumentSymbolResult {
       | Information it ↦ ⟦<Vec<SymbolInformation> as ToJson>⟧.stands it
     ] };
 
-    fn to_json(&self, alloc: Global) -> Result<Value, AllocError> {
+    fn write_json<S: JsonSink>(&self, out: &mut S) -> Result<(), S::Error> {
         match self {
-            DocumentSymbolResult::Symbols(it) => it.to_json(alloc),
-            DocumentSymbolResult::Information(it) => it.to_json(alloc),
-        }
-    }
-
-    fn write_json(&self, alloc: Global, out: &mut JsonWriter) -> Result<(), JsonWriteError> {
-        match self {
-            DocumentSymbolResult::Symbols(it) => it.write_json(alloc, out),
-            DocumentSymbolResult::Information(it) => it.write_json(alloc, out),
+            DocumentSymbolResult::Symbols(it) => it.write_json(out),
+            DocumentSymbolResult::Information(it) => it.write_json(out),
         }
     }
 }
@@ -368,12 +344,12 @@ impl ToJson for WorkspaceSymbolParams {
         ∷ (codes "query", Some (⟦<String as ToJson>⟧.stands it.query))
         ∷ (codes "workDoneToken", option_map ⟦<ProgressToken as ToJson>⟧.stands it.work_done_token) ∷ []) };
 
-    fn to_json(&self, alloc: Global) -> Result<Value, AllocError> {
-        Object::new(alloc)
-            .some("partialResultToken", &self.partial_result_token)
-            .member("query", &self.query)
-            .some("workDoneToken", &self.work_done_token)
-            .end()
+    fn write_json<S: JsonSink>(&self, out: &mut S) -> Result<(), S::Error> {
+        out.begin_object()?;
+        write_some(out, "partialResultToken", &self.partial_result_token)?;
+        write_member(out, "query", &self.query)?;
+        write_some(out, "workDoneToken", &self.work_done_token)?;
+        out.end_object()
     }
 }
 
@@ -420,17 +396,10 @@ impl ToJson for WorkspaceSymbolLocation {
       | Document it ↦ ⟦<TextDocumentIdentifier as ToJson>⟧.stands it
     ] };
 
-    fn to_json(&self, alloc: Global) -> Result<Value, AllocError> {
+    fn write_json<S: JsonSink>(&self, out: &mut S) -> Result<(), S::Error> {
         match self {
-            WorkspaceSymbolLocation::Place(it) => it.to_json(alloc),
-            WorkspaceSymbolLocation::Document(it) => it.to_json(alloc),
-        }
-    }
-
-    fn write_json(&self, alloc: Global, out: &mut JsonWriter) -> Result<(), JsonWriteError> {
-        match self {
-            WorkspaceSymbolLocation::Place(it) => it.write_json(alloc, out),
-            WorkspaceSymbolLocation::Document(it) => it.write_json(alloc, out),
+            WorkspaceSymbolLocation::Place(it) => it.write_json(out),
+            WorkspaceSymbolLocation::Document(it) => it.write_json(out),
         }
     }
 }
@@ -509,43 +478,33 @@ impl WorkspaceSymbol {
     }
 }
 
-impl ToJson for WorkspaceSymbol {
-    ghost stands = { λ it. object_with (
-        (codes "containerName", option_map ⟦<String as ToJson>⟧.stands it.container_name)
+impl KnownMembers for WorkspaceSymbol {
+    ghost known = { λ it. (codes "containerName", option_map ⟦<String as ToJson>⟧.stands it.container_name)
         ∷ (codes "data", option_map ⟦<Value as ToJson>⟧.stands it.«data»)
         ∷ (codes "deprecated", option_map ⟦<bool as ToJson>⟧.stands it.deprecated)
         ∷ (codes "kind", Some (⟦<SymbolKind as ToJson>⟧.stands it.kind))
         ∷ (codes "location", Some (⟦<WorkspaceSymbolLocation as ToJson>⟧.stands it.location))
         ∷ (codes "name", Some (⟦<String as ToJson>⟧.stands it.name))
-        ∷ (codes "tags", option_map ⟦<Vec<SymbolTag> as ToJson>⟧.stands it.tags) ∷ []) (option_map view it.more) };
+        ∷ (codes "tags", option_map ⟦<Vec<SymbolTag> as ToJson>⟧.stands it.tags) ∷ [] };
 
-    fn to_json(&self, alloc: Global) -> Result<Value, AllocError> {
-        Object::new(alloc)
-            .some("containerName", &self.container_name)
-            .some("data", &self.data)
-            .some("deprecated", &self.deprecated)
-            .member("kind", &self.kind)
-            .member("location", &self.location)
-            .member("name", &self.name)
-            .some("tags", &self.tags)
-            .rest(&self.more)
-            .end()
-    }
-
-    fn write_json(&self, alloc: Global, out: &mut JsonWriter) -> Result<(), JsonWriteError> {
-        if self.more.is_some() {
-            let tree = self.to_json(alloc)?;
-            return out.value(&tree);
-        }
+    fn write_known<S: JsonSink>(&self, out: &mut S) -> Result<(), S::Error> {
         out.begin_object()?;
-        write_some(alloc, out, "containerName", &self.container_name)?;
-        write_some(alloc, out, "data", &self.data)?;
-        write_some(alloc, out, "deprecated", &self.deprecated)?;
-        write_member(alloc, out, "kind", &self.kind)?;
-        write_member(alloc, out, "location", &self.location)?;
-        write_member(alloc, out, "name", &self.name)?;
-        write_some(alloc, out, "tags", &self.tags)?;
+        write_some(out, "containerName", &self.container_name)?;
+        write_some(out, "data", &self.data)?;
+        write_some(out, "deprecated", &self.deprecated)?;
+        write_member(out, "kind", &self.kind)?;
+        write_member(out, "location", &self.location)?;
+        write_member(out, "name", &self.name)?;
+        write_some(out, "tags", &self.tags)?;
         out.end_object()
+    }
+}
+
+impl ToJson for WorkspaceSymbol {
+    ghost stands = { λ it. object_with (⟦<WorkspaceSymbol as KnownMembers>⟧.known it) (option_map view it.more) };
+
+    fn write_json<S: JsonSink>(&self, out: &mut S) -> Result<(), S::Error> {
+        write_with(out, self, &self.more)
     }
 }
 

@@ -5,11 +5,11 @@ ghost use Rattle.serde_json.specs.Data.{number, unsigned};
 ghost use Rattle.lsp_types.specs.Json.{object_of};
 ghost use Rattle.lsp_types.specs.Reads.{IsObject, IsWithin, Optional, Required, ◌and◌};
 
-use crate::json::{FromJson, Members, Misfit, Object, ToJson, number_within};
+use crate::json::{FromJson, Members, Misfit, ToJson, number_within, write_member, write_some};
 use lsp_json::JsonRef;
+use lsp_json_write::JsonSink;
 use lsp_text::Range;
-use serde_json::Value;
-use std::alloc::{AllocError, Global};
+use std::alloc::Global;
 
 /// How important a message is (LSP 3.17, "MessageType"). On reading, another number is refused.
 #[derive(Clone, Copy, Drop)]
@@ -29,8 +29,8 @@ impl MessageType {
 impl ToJson for MessageType {
     ghost stands = { λ it. number (unsigned it.0) };
 
-    fn to_json(&self, alloc: Global) -> Result<Value, AllocError> {
-        self.0.to_json(alloc)
+    fn write_json<S: JsonSink>(&self, out: &mut S) -> Result<(), S::Error> {
+        self.0.write_json(out)
     }
 }
 
@@ -59,11 +59,11 @@ impl ToJson for ShowMessageParams {
         (codes "message", Some (⟦<String as ToJson>⟧.stands it.message))
         ∷ (codes "type", Some (⟦<MessageType as ToJson>⟧.stands it.typ)) ∷ []) };
 
-    fn to_json(&self, alloc: Global) -> Result<Value, AllocError> {
-        Object::new(alloc)
-            .member("message", &self.message)
-            .member("type", &self.typ)
-            .end()
+    fn write_json<S: JsonSink>(&self, out: &mut S) -> Result<(), S::Error> {
+        out.begin_object()?;
+        write_member(out, "message", &self.message)?;
+        write_member(out, "type", &self.typ)?;
+        out.end_object()
     }
 }
 
@@ -124,12 +124,12 @@ impl ToJson for ShowMessageRequestParams {
         ∷ (codes "message", Some (⟦<String as ToJson>⟧.stands it.message))
         ∷ (codes "type", Some (⟦<MessageType as ToJson>⟧.stands it.typ)) ∷ []) };
 
-    fn to_json(&self, alloc: Global) -> Result<Value, AllocError> {
-        Object::new(alloc)
-            .some("actions", &self.actions)
-            .member("message", &self.message)
-            .member("type", &self.typ)
-            .end()
+    fn write_json<S: JsonSink>(&self, out: &mut S) -> Result<(), S::Error> {
+        out.begin_object()?;
+        write_some(out, "actions", &self.actions)?;
+        write_member(out, "message", &self.message)?;
+        write_member(out, "type", &self.typ)?;
+        out.end_object()
     }
 }
 
@@ -170,8 +170,10 @@ impl ToJson for MessageActionItem {
     ghost stands = { λ it. object_of (
         (codes "title", Some (⟦<String as ToJson>⟧.stands it.title)) ∷ []) };
 
-    fn to_json(&self, alloc: Global) -> Result<Value, AllocError> {
-        Object::new(alloc).member("title", &self.title).end()
+    fn write_json<S: JsonSink>(&self, out: &mut S) -> Result<(), S::Error> {
+        out.begin_object()?;
+        write_member(out, "title", &self.title)?;
+        out.end_object()
     }
 }
 
@@ -231,13 +233,13 @@ impl ToJson for ShowDocumentParams {
         ∷ (codes "takeFocus", option_map ⟦<bool as ToJson>⟧.stands it.take_focus)
         ∷ (codes "uri", Some (⟦<String as ToJson>⟧.stands it.uri)) ∷ []) };
 
-    fn to_json(&self, alloc: Global) -> Result<Value, AllocError> {
-        Object::new(alloc)
-            .some("external", &self.external)
-            .some("selection", &self.selection)
-            .some("takeFocus", &self.take_focus)
-            .member("uri", &self.uri)
-            .end()
+    fn write_json<S: JsonSink>(&self, out: &mut S) -> Result<(), S::Error> {
+        out.begin_object()?;
+        write_some(out, "external", &self.external)?;
+        write_some(out, "selection", &self.selection)?;
+        write_some(out, "takeFocus", &self.take_focus)?;
+        write_member(out, "uri", &self.uri)?;
+        out.end_object()
     }
 }
 
@@ -281,8 +283,10 @@ impl ToJson for ShowDocumentResult {
     ghost stands = { λ it. object_of (
         (codes "success", Some (⟦<bool as ToJson>⟧.stands it.success)) ∷ []) };
 
-    fn to_json(&self, alloc: Global) -> Result<Value, AllocError> {
-        Object::new(alloc).member("success", &self.success).end()
+    fn write_json<S: JsonSink>(&self, out: &mut S) -> Result<(), S::Error> {
+        out.begin_object()?;
+        write_member(out, "success", &self.success)?;
+        out.end_object()
     }
 }
 

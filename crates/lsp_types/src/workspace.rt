@@ -6,13 +6,12 @@ ghost use Rattle.lsp_types.specs.Json.{object_of};
 ghost use Rattle.lsp_types.specs.Reads.{IfFits, IsObject, IsWithin, Optional, Required, ◌and◌};
 
 use crate::edits::WorkspaceEdit;
-use crate::json::{
-    FromJson, Members, Misfit, Object, ToJson, number_within, write_member, write_some,
-};
+use crate::json::{FromJson, Members, Misfit, ToJson, number_within, write_member, write_some};
 use crate::progress::ProgressToken;
-use lsp_json::{JsonRef, JsonWriteError, JsonWriter};
+use lsp_json::JsonRef;
+use lsp_json_write::JsonSink;
 use serde_json::Value;
-use std::alloc::{AllocError, Global};
+use std::alloc::Global;
 
 /// A folder that is open in the client (LSP 3.17, "WorkspaceFolder").
 #[derive(Drop)]
@@ -28,11 +27,11 @@ impl ToJson for WorkspaceFolder {
         (codes "name", option_map ⟦<String as ToJson>⟧.stands it.name)
         ∷ (codes "uri", Some (⟦<String as ToJson>⟧.stands it.uri)) ∷ []) };
 
-    fn to_json(&self, alloc: Global) -> Result<Value, AllocError> {
-        Object::new(alloc)
-            .some("name", &self.name)
-            .member("uri", &self.uri)
-            .end()
+    fn write_json<S: JsonSink>(&self, out: &mut S) -> Result<(), S::Error> {
+        out.begin_object()?;
+        write_some(out, "name", &self.name)?;
+        write_member(out, "uri", &self.uri)?;
+        out.end_object()
     }
 }
 
@@ -67,8 +66,10 @@ impl ToJson for DidChangeWorkspaceFoldersParams {
     ghost stands = { λ it. object_of (
         (codes "event", Some (⟦<WorkspaceFoldersChangeEvent as ToJson>⟧.stands it.event)) ∷ []) };
 
-    fn to_json(&self, alloc: Global) -> Result<Value, AllocError> {
-        Object::new(alloc).member("event", &self.event).end()
+    fn write_json<S: JsonSink>(&self, out: &mut S) -> Result<(), S::Error> {
+        out.begin_object()?;
+        write_member(out, "event", &self.event)?;
+        out.end_object()
     }
 }
 
@@ -104,11 +105,11 @@ impl ToJson for WorkspaceFoldersChangeEvent {
         (codes "added", Some (⟦<Vec<WorkspaceFolder> as ToJson>⟧.stands it.added))
         ∷ (codes "removed", Some (⟦<Vec<WorkspaceFolder> as ToJson>⟧.stands it.removed)) ∷ []) };
 
-    fn to_json(&self, alloc: Global) -> Result<Value, AllocError> {
-        Object::new(alloc)
-            .member("added", &self.added)
-            .member("removed", &self.removed)
-            .end()
+    fn write_json<S: JsonSink>(&self, out: &mut S) -> Result<(), S::Error> {
+        out.begin_object()?;
+        write_member(out, "added", &self.added)?;
+        write_member(out, "removed", &self.removed)?;
+        out.end_object()
     }
 }
 
@@ -146,8 +147,10 @@ impl ToJson for DidChangeConfigurationParams {
     ghost stands = { λ it. object_of (
         (codes "settings", Some (⟦<Value as ToJson>⟧.stands it.settings)) ∷ []) };
 
-    fn to_json(&self, alloc: Global) -> Result<Value, AllocError> {
-        Object::new(alloc).member("settings", &self.settings).end()
+    fn write_json<S: JsonSink>(&self, out: &mut S) -> Result<(), S::Error> {
+        out.begin_object()?;
+        write_member(out, "settings", &self.settings)?;
+        out.end_object()
     }
 }
 
@@ -185,8 +188,8 @@ impl FileChangeType {
 impl ToJson for FileChangeType {
     ghost stands = { λ it. number (unsigned it.0) };
 
-    fn to_json(&self, alloc: Global) -> Result<Value, AllocError> {
-        self.0.to_json(alloc)
+    fn write_json<S: JsonSink>(&self, out: &mut S) -> Result<(), S::Error> {
+        self.0.write_json(out)
     }
 }
 
@@ -215,11 +218,11 @@ impl ToJson for FileEvent {
         (codes "type", Some (⟦<FileChangeType as ToJson>⟧.stands it.typ))
         ∷ (codes "uri", Some (⟦<String as ToJson>⟧.stands it.uri)) ∷ []) };
 
-    fn to_json(&self, alloc: Global) -> Result<Value, AllocError> {
-        Object::new(alloc)
-            .member("type", &self.typ)
-            .member("uri", &self.uri)
-            .end()
+    fn write_json<S: JsonSink>(&self, out: &mut S) -> Result<(), S::Error> {
+        out.begin_object()?;
+        write_member(out, "type", &self.typ)?;
+        write_member(out, "uri", &self.uri)?;
+        out.end_object()
     }
 }
 
@@ -254,8 +257,10 @@ impl ToJson for DidChangeWatchedFilesParams {
     ghost stands = { λ it. object_of (
         (codes "changes", Some (⟦<Vec<FileEvent> as ToJson>⟧.stands it.changes)) ∷ []) };
 
-    fn to_json(&self, alloc: Global) -> Result<Value, AllocError> {
-        Object::new(alloc).member("changes", &self.changes).end()
+    fn write_json<S: JsonSink>(&self, out: &mut S) -> Result<(), S::Error> {
+        out.begin_object()?;
+        write_member(out, "changes", &self.changes)?;
+        out.end_object()
     }
 }
 
@@ -289,8 +294,10 @@ impl ToJson for ConfigurationParams {
     ghost stands = { λ it. object_of (
         (codes "items", Some (⟦<Vec<ConfigurationItem> as ToJson>⟧.stands it.items)) ∷ []) };
 
-    fn to_json(&self, alloc: Global) -> Result<Value, AllocError> {
-        Object::new(alloc).member("items", &self.items).end()
+    fn write_json<S: JsonSink>(&self, out: &mut S) -> Result<(), S::Error> {
+        out.begin_object()?;
+        write_member(out, "items", &self.items)?;
+        out.end_object()
     }
 }
 
@@ -340,11 +347,11 @@ impl ToJson for ConfigurationItem {
         (codes "scopeUri", option_map ⟦<String as ToJson>⟧.stands it.scope_uri)
         ∷ (codes "section", option_map ⟦<String as ToJson>⟧.stands it.section) ∷ []) };
 
-    fn to_json(&self, alloc: Global) -> Result<Value, AllocError> {
-        Object::new(alloc)
-            .some("scopeUri", &self.scope_uri)
-            .some("section", &self.section)
-            .end()
+    fn write_json<S: JsonSink>(&self, out: &mut S) -> Result<(), S::Error> {
+        out.begin_object()?;
+        write_some(out, "scopeUri", &self.scope_uri)?;
+        write_some(out, "section", &self.section)?;
+        out.end_object()
     }
 }
 
@@ -404,19 +411,11 @@ impl ToJson for Command {
         ∷ (codes "command", Some (⟦<String as ToJson>⟧.stands it.command))
         ∷ (codes "title", Some (⟦<String as ToJson>⟧.stands it.title)) ∷ []) };
 
-    fn to_json(&self, alloc: Global) -> Result<Value, AllocError> {
-        Object::new(alloc)
-            .some("arguments", &self.arguments)
-            .member("command", &self.command)
-            .member("title", &self.title)
-            .end()
-    }
-
-    fn write_json(&self, alloc: Global, out: &mut JsonWriter) -> Result<(), JsonWriteError> {
+    fn write_json<S: JsonSink>(&self, out: &mut S) -> Result<(), S::Error> {
         out.begin_object()?;
-        write_some(alloc, out, "arguments", &self.arguments)?;
-        write_member(alloc, out, "command", &self.command)?;
-        write_member(alloc, out, "title", &self.title)?;
+        write_some(out, "arguments", &self.arguments)?;
+        write_member(out, "command", &self.command)?;
+        write_member(out, "title", &self.title)?;
         out.end_object()
     }
 }
@@ -464,12 +463,12 @@ impl ToJson for ExecuteCommandParams {
         ∷ (codes "command", Some (⟦<String as ToJson>⟧.stands it.command))
         ∷ (codes "workDoneToken", option_map ⟦<ProgressToken as ToJson>⟧.stands it.work_done_token) ∷ []) };
 
-    fn to_json(&self, alloc: Global) -> Result<Value, AllocError> {
-        Object::new(alloc)
-            .some("arguments", &self.arguments)
-            .member("command", &self.command)
-            .some("workDoneToken", &self.work_done_token)
-            .end()
+    fn write_json<S: JsonSink>(&self, out: &mut S) -> Result<(), S::Error> {
+        out.begin_object()?;
+        write_some(out, "arguments", &self.arguments)?;
+        write_member(out, "command", &self.command)?;
+        write_some(out, "workDoneToken", &self.work_done_token)?;
+        out.end_object()
     }
 }
 
@@ -527,11 +526,11 @@ impl ToJson for ApplyWorkspaceEditParams {
         (codes "edit", Some (⟦<WorkspaceEdit as ToJson>⟧.stands it.edit))
         ∷ (codes "label", option_map ⟦<String as ToJson>⟧.stands it.label) ∷ []) };
 
-    fn to_json(&self, alloc: Global) -> Result<Value, AllocError> {
-        Object::new(alloc)
-            .member("edit", &self.edit)
-            .some("label", &self.label)
-            .end()
+    fn write_json<S: JsonSink>(&self, out: &mut S) -> Result<(), S::Error> {
+        out.begin_object()?;
+        write_member(out, "edit", &self.edit)?;
+        write_some(out, "label", &self.label)?;
+        out.end_object()
     }
 }
 
@@ -572,12 +571,12 @@ impl ToJson for ApplyWorkspaceEditResult {
         ∷ (codes "failedChange", option_map ⟦<u32 as ToJson>⟧.stands it.failed_change)
         ∷ (codes "failureReason", option_map ⟦<String as ToJson>⟧.stands it.failure_reason) ∷ []) };
 
-    fn to_json(&self, alloc: Global) -> Result<Value, AllocError> {
-        Object::new(alloc)
-            .member("applied", &self.applied)
-            .some("failedChange", &self.failed_change)
-            .some("failureReason", &self.failure_reason)
-            .end()
+    fn write_json<S: JsonSink>(&self, out: &mut S) -> Result<(), S::Error> {
+        out.begin_object()?;
+        write_member(out, "applied", &self.applied)?;
+        write_some(out, "failedChange", &self.failed_change)?;
+        write_some(out, "failureReason", &self.failure_reason)?;
+        out.end_object()
     }
 }
 

@@ -4,12 +4,12 @@ ghost use Rattle.std.specs.Prelude.{◌∷◌, [], Some, codes, option_map};
 ghost use Rattle.lsp_types.specs.Json.{object_of};
 ghost use Rattle.lsp_types.specs.Reads.{IfFits, IsObject, Optional, Required, ◌and◌};
 
-use lsp_json::{JsonRef, JsonWriteError, JsonWriter};
+use lsp_json::JsonRef;
+use lsp_json_write::JsonSink;
 use lsp_text::Range;
-use lsp_types::json::{FromJson, Members, Misfit, Object, ToJson, write_member, write_some};
+use lsp_types::json::{FromJson, Members, Misfit, ToJson, write_member, write_some};
 use lsp_types::{DocumentSymbolParams, ProgressToken, TextDocumentIdentifier, TextEdit};
-use serde_json::Value;
-use std::alloc::{AllocError, Global};
+use std::alloc::Global;
 
 /// The params of `textDocument/documentColor` (LSP 3.17, "Document Color Request"). The result is a list of
 /// `ColorInformation`.
@@ -35,21 +35,12 @@ impl ToJson for Color {
         ∷ (codes "green", Some (⟦<f64 as ToJson>⟧.stands it.green))
         ∷ (codes "red", Some (⟦<f64 as ToJson>⟧.stands it.red)) ∷ []) };
 
-    fn to_json(&self, alloc: Global) -> Result<Value, AllocError> {
-        Object::new(alloc)
-            .member("alpha", &self.alpha)
-            .member("blue", &self.blue)
-            .member("green", &self.green)
-            .member("red", &self.red)
-            .end()
-    }
-
-    fn write_json(&self, alloc: Global, out: &mut JsonWriter) -> Result<(), JsonWriteError> {
+    fn write_json<S: JsonSink>(&self, out: &mut S) -> Result<(), S::Error> {
         out.begin_object()?;
-        write_member(alloc, out, "alpha", &self.alpha)?;
-        write_member(alloc, out, "blue", &self.blue)?;
-        write_member(alloc, out, "green", &self.green)?;
-        write_member(alloc, out, "red", &self.red)?;
+        write_member(out, "alpha", &self.alpha)?;
+        write_member(out, "blue", &self.blue)?;
+        write_member(out, "green", &self.green)?;
+        write_member(out, "red", &self.red)?;
         out.end_object()
     }
 }
@@ -97,17 +88,10 @@ impl ToJson for ColorInformation {
         (codes "color", Some (⟦<Color as ToJson>⟧.stands it.color))
         ∷ (codes "range", Some (⟦<Range as ToJson>⟧.stands it.range)) ∷ []) };
 
-    fn to_json(&self, alloc: Global) -> Result<Value, AllocError> {
-        Object::new(alloc)
-            .member("color", &self.color)
-            .member("range", &self.range)
-            .end()
-    }
-
-    fn write_json(&self, alloc: Global, out: &mut JsonWriter) -> Result<(), JsonWriteError> {
+    fn write_json<S: JsonSink>(&self, out: &mut S) -> Result<(), S::Error> {
         out.begin_object()?;
-        write_member(alloc, out, "color", &self.color)?;
-        write_member(alloc, out, "range", &self.range)?;
+        write_member(out, "color", &self.color)?;
+        write_member(out, "range", &self.range)?;
         out.end_object()
     }
 }
@@ -157,14 +141,14 @@ impl ToJson for ColorPresentationParams {
         ∷ (codes "textDocument", Some (⟦<TextDocumentIdentifier as ToJson>⟧.stands it.text_document))
         ∷ (codes "workDoneToken", option_map ⟦<ProgressToken as ToJson>⟧.stands it.work_done_token) ∷ []) };
 
-    fn to_json(&self, alloc: Global) -> Result<Value, AllocError> {
-        Object::new(alloc)
-            .member("color", &self.color)
-            .some("partialResultToken", &self.partial_result_token)
-            .member("range", &self.range)
-            .member("textDocument", &self.text_document)
-            .some("workDoneToken", &self.work_done_token)
-            .end()
+    fn write_json<S: JsonSink>(&self, out: &mut S) -> Result<(), S::Error> {
+        out.begin_object()?;
+        write_member(out, "color", &self.color)?;
+        write_some(out, "partialResultToken", &self.partial_result_token)?;
+        write_member(out, "range", &self.range)?;
+        write_member(out, "textDocument", &self.text_document)?;
+        write_some(out, "workDoneToken", &self.work_done_token)?;
+        out.end_object()
     }
 }
 
@@ -240,24 +224,11 @@ impl ToJson for ColorPresentation {
         ∷ (codes "label", Some (⟦<String as ToJson>⟧.stands it.label))
         ∷ (codes "textEdit", option_map ⟦<TextEdit as ToJson>⟧.stands it.text_edit) ∷ []) };
 
-    fn to_json(&self, alloc: Global) -> Result<Value, AllocError> {
-        Object::new(alloc)
-            .some("additionalTextEdits", &self.additional_text_edits)
-            .member("label", &self.label)
-            .some("textEdit", &self.text_edit)
-            .end()
-    }
-
-    fn write_json(&self, alloc: Global, out: &mut JsonWriter) -> Result<(), JsonWriteError> {
+    fn write_json<S: JsonSink>(&self, out: &mut S) -> Result<(), S::Error> {
         out.begin_object()?;
-        write_some(
-            alloc,
-            out,
-            "additionalTextEdits",
-            &self.additional_text_edits,
-        )?;
-        write_member(alloc, out, "label", &self.label)?;
-        write_some(alloc, out, "textEdit", &self.text_edit)?;
+        write_some(out, "additionalTextEdits", &self.additional_text_edits)?;
+        write_member(out, "label", &self.label)?;
+        write_some(out, "textEdit", &self.text_edit)?;
         out.end_object()
     }
 }

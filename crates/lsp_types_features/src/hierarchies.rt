@@ -5,12 +5,15 @@ ghost use Rattle.serde_json.specs.View.{view};
 ghost use Rattle.lsp_types.specs.Json.{object_of, object_with};
 ghost use Rattle.lsp_types.specs.Reads.{Beside, IfFits, IsObject, Optional, Required, ◌and◌};
 
-use lsp_json::{JsonRef, JsonWriteError, JsonWriter};
+use lsp_json::JsonRef;
+use lsp_json_write::JsonSink;
 use lsp_text::Range;
-use lsp_types::json::{FromJson, Members, Misfit, Object, ToJson, write_member, write_some};
+use lsp_types::json::{
+    FromJson, KnownMembers, Members, Misfit, ToJson, write_member, write_some, write_with,
+};
 use lsp_types::{HoverParams, ProgressToken, SymbolKind, SymbolTag};
 use serde_json::Value;
-use std::alloc::{AllocError, Global};
+use std::alloc::Global;
 
 /// The params of `textDocument/prepareCallHierarchy` (LSP 3.17, "Prepare Call Hierarchy Request"). The result is a list
 /// of `CallHierarchyItem` or null.
@@ -78,46 +81,35 @@ impl CallHierarchyItem {
     }
 }
 
-impl ToJson for CallHierarchyItem {
-    ghost stands = { λ it. object_with (
-        (codes "data", option_map ⟦<Value as ToJson>⟧.stands it.«data»)
+impl KnownMembers for CallHierarchyItem {
+    ghost known = { λ it. (codes "data", option_map ⟦<Value as ToJson>⟧.stands it.«data»)
         ∷ (codes "detail", option_map ⟦<String as ToJson>⟧.stands it.detail)
         ∷ (codes "kind", Some (⟦<SymbolKind as ToJson>⟧.stands it.kind))
         ∷ (codes "name", Some (⟦<String as ToJson>⟧.stands it.name))
         ∷ (codes "range", Some (⟦<Range as ToJson>⟧.stands it.range))
         ∷ (codes "selectionRange", Some (⟦<Range as ToJson>⟧.stands it.selection_range))
         ∷ (codes "tags", option_map ⟦<Vec<SymbolTag> as ToJson>⟧.stands it.tags)
-        ∷ (codes "uri", Some (⟦<String as ToJson>⟧.stands it.uri)) ∷ []) (option_map view it.more) };
+        ∷ (codes "uri", Some (⟦<String as ToJson>⟧.stands it.uri)) ∷ [] };
 
-    fn to_json(&self, alloc: Global) -> Result<Value, AllocError> {
-        Object::new(alloc)
-            .some("data", &self.data)
-            .some("detail", &self.detail)
-            .member("kind", &self.kind)
-            .member("name", &self.name)
-            .member("range", &self.range)
-            .member("selectionRange", &self.selection_range)
-            .some("tags", &self.tags)
-            .member("uri", &self.uri)
-            .rest(&self.more)
-            .end()
-    }
-
-    fn write_json(&self, alloc: Global, out: &mut JsonWriter) -> Result<(), JsonWriteError> {
-        if self.more.is_some() {
-            let tree = self.to_json(alloc)?;
-            return out.value(&tree);
-        }
+    fn write_known<S: JsonSink>(&self, out: &mut S) -> Result<(), S::Error> {
         out.begin_object()?;
-        write_some(alloc, out, "data", &self.data)?;
-        write_some(alloc, out, "detail", &self.detail)?;
-        write_member(alloc, out, "kind", &self.kind)?;
-        write_member(alloc, out, "name", &self.name)?;
-        write_member(alloc, out, "range", &self.range)?;
-        write_member(alloc, out, "selectionRange", &self.selection_range)?;
-        write_some(alloc, out, "tags", &self.tags)?;
-        write_member(alloc, out, "uri", &self.uri)?;
+        write_some(out, "data", &self.data)?;
+        write_some(out, "detail", &self.detail)?;
+        write_member(out, "kind", &self.kind)?;
+        write_member(out, "name", &self.name)?;
+        write_member(out, "range", &self.range)?;
+        write_member(out, "selectionRange", &self.selection_range)?;
+        write_some(out, "tags", &self.tags)?;
+        write_member(out, "uri", &self.uri)?;
         out.end_object()
+    }
+}
+
+impl ToJson for CallHierarchyItem {
+    ghost stands = { λ it. object_with (⟦<CallHierarchyItem as KnownMembers>⟧.known it) (option_map view it.more) };
+
+    fn write_json<S: JsonSink>(&self, out: &mut S) -> Result<(), S::Error> {
+        write_with(out, self, &self.more)
     }
 }
 
@@ -201,12 +193,12 @@ impl ToJson for CallHierarchyIncomingCallsParams {
         ∷ (codes "partialResultToken", option_map ⟦<ProgressToken as ToJson>⟧.stands it.partial_result_token)
         ∷ (codes "workDoneToken", option_map ⟦<ProgressToken as ToJson>⟧.stands it.work_done_token) ∷ []) };
 
-    fn to_json(&self, alloc: Global) -> Result<Value, AllocError> {
-        Object::new(alloc)
-            .member("item", &self.item)
-            .some("partialResultToken", &self.partial_result_token)
-            .some("workDoneToken", &self.work_done_token)
-            .end()
+    fn write_json<S: JsonSink>(&self, out: &mut S) -> Result<(), S::Error> {
+        out.begin_object()?;
+        write_member(out, "item", &self.item)?;
+        write_some(out, "partialResultToken", &self.partial_result_token)?;
+        write_some(out, "workDoneToken", &self.work_done_token)?;
+        out.end_object()
     }
 }
 
@@ -253,17 +245,10 @@ impl ToJson for CallHierarchyIncomingCall {
         (codes "from", Some (⟦<CallHierarchyItem as ToJson>⟧.stands it.from))
         ∷ (codes "fromRanges", Some (⟦<Vec<Range> as ToJson>⟧.stands it.from_ranges)) ∷ []) };
 
-    fn to_json(&self, alloc: Global) -> Result<Value, AllocError> {
-        Object::new(alloc)
-            .member("from", &self.from)
-            .member("fromRanges", &self.from_ranges)
-            .end()
-    }
-
-    fn write_json(&self, alloc: Global, out: &mut JsonWriter) -> Result<(), JsonWriteError> {
+    fn write_json<S: JsonSink>(&self, out: &mut S) -> Result<(), S::Error> {
         out.begin_object()?;
-        write_member(alloc, out, "from", &self.from)?;
-        write_member(alloc, out, "fromRanges", &self.from_ranges)?;
+        write_member(out, "from", &self.from)?;
+        write_member(out, "fromRanges", &self.from_ranges)?;
         out.end_object()
     }
 }
@@ -306,17 +291,10 @@ impl ToJson for CallHierarchyOutgoingCall {
         (codes "fromRanges", Some (⟦<Vec<Range> as ToJson>⟧.stands it.from_ranges))
         ∷ (codes "to", Some (⟦<CallHierarchyItem as ToJson>⟧.stands it.to)) ∷ []) };
 
-    fn to_json(&self, alloc: Global) -> Result<Value, AllocError> {
-        Object::new(alloc)
-            .member("fromRanges", &self.from_ranges)
-            .member("to", &self.to)
-            .end()
-    }
-
-    fn write_json(&self, alloc: Global, out: &mut JsonWriter) -> Result<(), JsonWriteError> {
+    fn write_json<S: JsonSink>(&self, out: &mut S) -> Result<(), S::Error> {
         out.begin_object()?;
-        write_member(alloc, out, "fromRanges", &self.from_ranges)?;
-        write_member(alloc, out, "to", &self.to)?;
+        write_member(out, "fromRanges", &self.from_ranges)?;
+        write_member(out, "to", &self.to)?;
         out.end_object()
     }
 }

@@ -4,14 +4,12 @@ ghost use Rattle.std.specs.Prelude.{◌∷◌, [], Some, codes, option_map};
 ghost use Rattle.lsp_types.specs.Json.{object_of};
 ghost use Rattle.lsp_types.specs.Reads.{IfFits, IsObject, NoneReads, Optional, Required, ◌and◌};
 
-use lsp_json::{JsonRef, JsonWriteError, JsonWriter};
+use lsp_json::JsonRef;
+use lsp_json_write::JsonSink;
 use lsp_text::Range;
-use lsp_types::json::{
-    FromJson, Members, Misfit, Object, ToJson, fitting, write_member, write_some,
-};
+use lsp_types::json::{FromJson, Members, Misfit, ToJson, fitting, write_member, write_some};
 use lsp_types::{ProgressToken, TextDocumentIdentifier};
-use serde_json::Value;
-use std::alloc::{AllocError, Global};
+use std::alloc::Global;
 
 /// The params of `textDocument/inlineValue` (LSP 3.17, "Inline Value Request"). The result is a list of `InlineValue`
 /// or null.
@@ -34,13 +32,13 @@ impl ToJson for InlineValueParams {
         ∷ (codes "textDocument", Some (⟦<TextDocumentIdentifier as ToJson>⟧.stands it.text_document))
         ∷ (codes "workDoneToken", option_map ⟦<ProgressToken as ToJson>⟧.stands it.work_done_token) ∷ []) };
 
-    fn to_json(&self, alloc: Global) -> Result<Value, AllocError> {
-        Object::new(alloc)
-            .member("context", &self.context)
-            .member("range", &self.range)
-            .member("textDocument", &self.text_document)
-            .some("workDoneToken", &self.work_done_token)
-            .end()
+    fn write_json<S: JsonSink>(&self, out: &mut S) -> Result<(), S::Error> {
+        out.begin_object()?;
+        write_member(out, "context", &self.context)?;
+        write_member(out, "range", &self.range)?;
+        write_member(out, "textDocument", &self.text_document)?;
+        write_some(out, "workDoneToken", &self.work_done_token)?;
+        out.end_object()
     }
 }
 
@@ -87,11 +85,11 @@ impl ToJson for InlineValueContext {
         (codes "frameId", Some (⟦<i32 as ToJson>⟧.stands it.frame_id))
         ∷ (codes "stoppedLocation", Some (⟦<Range as ToJson>⟧.stands it.stopped_location)) ∷ []) };
 
-    fn to_json(&self, alloc: Global) -> Result<Value, AllocError> {
-        Object::new(alloc)
-            .member("frameId", &self.frame_id)
-            .member("stoppedLocation", &self.stopped_location)
-            .end()
+    fn write_json<S: JsonSink>(&self, out: &mut S) -> Result<(), S::Error> {
+        out.begin_object()?;
+        write_member(out, "frameId", &self.frame_id)?;
+        write_member(out, "stoppedLocation", &self.stopped_location)?;
+        out.end_object()
     }
 }
 
@@ -132,17 +130,10 @@ impl ToJson for InlineValueText {
         (codes "range", Some (⟦<Range as ToJson>⟧.stands it.range))
         ∷ (codes "text", Some (⟦<String as ToJson>⟧.stands it.text)) ∷ []) };
 
-    fn to_json(&self, alloc: Global) -> Result<Value, AllocError> {
-        Object::new(alloc)
-            .member("range", &self.range)
-            .member("text", &self.text)
-            .end()
-    }
-
-    fn write_json(&self, alloc: Global, out: &mut JsonWriter) -> Result<(), JsonWriteError> {
+    fn write_json<S: JsonSink>(&self, out: &mut S) -> Result<(), S::Error> {
         out.begin_object()?;
-        write_member(alloc, out, "range", &self.range)?;
-        write_member(alloc, out, "text", &self.text)?;
+        write_member(out, "range", &self.range)?;
+        write_member(out, "text", &self.text)?;
         out.end_object()
     }
 }
@@ -203,24 +194,11 @@ impl ToJson for InlineValueVariableLookup {
         ∷ (codes "range", Some (⟦<Range as ToJson>⟧.stands it.range))
         ∷ (codes "variableName", option_map ⟦<String as ToJson>⟧.stands it.variable_name) ∷ []) };
 
-    fn to_json(&self, alloc: Global) -> Result<Value, AllocError> {
-        Object::new(alloc)
-            .member("caseSensitiveLookup", &self.case_sensitive_lookup)
-            .member("range", &self.range)
-            .some("variableName", &self.variable_name)
-            .end()
-    }
-
-    fn write_json(&self, alloc: Global, out: &mut JsonWriter) -> Result<(), JsonWriteError> {
+    fn write_json<S: JsonSink>(&self, out: &mut S) -> Result<(), S::Error> {
         out.begin_object()?;
-        write_member(
-            alloc,
-            out,
-            "caseSensitiveLookup",
-            &self.case_sensitive_lookup,
-        )?;
-        write_member(alloc, out, "range", &self.range)?;
-        write_some(alloc, out, "variableName", &self.variable_name)?;
+        write_member(out, "caseSensitiveLookup", &self.case_sensitive_lookup)?;
+        write_member(out, "range", &self.range)?;
+        write_some(out, "variableName", &self.variable_name)?;
         out.end_object()
     }
 }
@@ -282,17 +260,10 @@ impl ToJson for InlineValueEvaluatableExpression {
         (codes "expression", option_map ⟦<String as ToJson>⟧.stands it.expression)
         ∷ (codes "range", Some (⟦<Range as ToJson>⟧.stands it.range)) ∷ []) };
 
-    fn to_json(&self, alloc: Global) -> Result<Value, AllocError> {
-        Object::new(alloc)
-            .some("expression", &self.expression)
-            .member("range", &self.range)
-            .end()
-    }
-
-    fn write_json(&self, alloc: Global, out: &mut JsonWriter) -> Result<(), JsonWriteError> {
+    fn write_json<S: JsonSink>(&self, out: &mut S) -> Result<(), S::Error> {
         out.begin_object()?;
-        write_some(alloc, out, "expression", &self.expression)?;
-        write_member(alloc, out, "range", &self.range)?;
+        write_some(out, "expression", &self.expression)?;
+        write_member(out, "range", &self.range)?;
         out.end_object()
     }
 }
@@ -340,19 +311,11 @@ impl ToJson for InlineValue {
       | Expression it ↦ ⟦<InlineValueEvaluatableExpression as ToJson>⟧.stands it
     ] };
 
-    fn to_json(&self, alloc: Global) -> Result<Value, AllocError> {
+    fn write_json<S: JsonSink>(&self, out: &mut S) -> Result<(), S::Error> {
         match self {
-            InlineValue::Text(it) => it.to_json(alloc),
-            InlineValue::Lookup(it) => it.to_json(alloc),
-            InlineValue::Expression(it) => it.to_json(alloc),
-        }
-    }
-
-    fn write_json(&self, alloc: Global, out: &mut JsonWriter) -> Result<(), JsonWriteError> {
-        match self {
-            InlineValue::Text(it) => it.write_json(alloc, out),
-            InlineValue::Lookup(it) => it.write_json(alloc, out),
-            InlineValue::Expression(it) => it.write_json(alloc, out),
+            InlineValue::Text(it) => it.write_json(out),
+            InlineValue::Lookup(it) => it.write_json(out),
+            InlineValue::Expression(it) => it.write_json(out),
         }
     }
 }

@@ -1,67 +1,39 @@
 // How parts are read and written that stand in others.
-ghost use Rattle.std.specs.Prelude.{◌≡◌, IfOk, OnOk};
-ghost use Rattle.serde_json.specs.View.{view};
+ghost use Rattle.std.specs.Prelude.{OnOk};
 ghost use Rattle.lsp_json.specs.JsonRef.{json_data};
-ghost use Rattle.lsp_json.specs.Writer.{Wrote};
+ghost use Rattle.lsp_json_write.specs.Taken.{Steps, with_value};
 ghost use Rattle.lsp_types.specs.Reads.{ReadsAs};
 ghost use Rattle.lsp_types_features.specs.Selections.{IsSelectionWithin};
 ghost use Rattle.lsp_types_features.specs.Written.{selection_range};
 
 use crate::places::SelectionRange;
-use lsp_json::{JsonRef, JsonWriteError, JsonWriter};
-use lsp_types::json::{FromJson, Misfit, Object, ToJson, present, required, write_member};
-use serde_json::Value;
-use std::alloc::{AllocError, Global};
+use lsp_json::JsonRef;
+use lsp_json_write::JsonSink;
+use lsp_types::json::{FromJson, Misfit, ToJson, present, required, write_member};
+use std::alloc::Global;
 
 impl ToJson for SelectionRange {
     ghost stands = { selection_range };
 
-    fn to_json(&self, alloc: Global) -> Result<Value, AllocError> {
-        selection_to_json(alloc, self)
-    }
-
-    fn write_json(&self, alloc: Global, out: &mut JsonWriter) -> Result<(), JsonWriteError> {
-        write_selection(alloc, out, self)
+    fn write_json<S: JsonSink>(&self, out: &mut S) -> Result<(), S::Error> {
+        write_selection(out, self)
     }
 }
 
-/// Writes a part, with those around it.
-fn selection_to_json(alloc: Global, selection: &SelectionRange) -> Result<Value, AllocError>
-    ensures { IfOk result (λ value. view value ≡ selection_range selection.now) }
-{
-    match &selection.parent {
-        Some(parent) => {
-            let parent = selection_to_json(alloc, &**parent)?;
-            Object::new(alloc)
-                .value("parent", Some(parent))
-                .member("range", &selection.range)
-                .end()
-        }
-        None => Object::new(alloc)
-            .value("parent", None)
-            .member("range", &selection.range)
-            .end(),
-    }
-}
-
-/// Writes a part as text, with those around it.
-fn write_selection(
-    alloc: Global,
-    out: &mut JsonWriter,
-    selection: &SelectionRange,
-) -> Result<(), JsonWriteError>
-    ensures { OnOk result (Wrote (selection_range selection.now) out.old out.new) }
+/// Writes a part, with those around it. The error is that of the sink.
+fn write_selection<S: JsonSink>(out: &mut S, selection: &SelectionRange) -> Result<(), S::Error>
+    ensures { OnOk result (Steps S.holds (with_value (selection_range selection.now)) out.old out.new) }
 {
     out.begin_object()?;
     match &selection.parent {
         Some(parent) => {
             out.key("parent")?;
-            write_selection(alloc, out, &**parent)?;
-            write_member(alloc, out, "range", &selection.range)?;
+            write_selection(out, &**parent)?;
+            write_member(out, "range", &selection.range)?;
             out.end_object()
         }
         None => {
-            write_member(alloc, out, "range", &selection.range)?;
+            write_member(out, "range", &selection.range)?;
             out.end_object()
         }
     }

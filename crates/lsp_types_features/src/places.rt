@@ -6,17 +6,19 @@ ghost use Rattle.serde_json.specs.View.{view};
 ghost use Rattle.lsp_types.specs.Json.{object_of, object_with};
 ghost use Rattle.lsp_types.specs.Reads.{Beside, IfFits, IsObject, IsWithin, Optional, Required, ◌and◌};
 
-use lsp_json::{JsonRef, JsonWriteError, JsonWriter};
+use lsp_json::JsonRef;
+use lsp_json_write::JsonSink;
 use lsp_text::{Position, Range};
 use lsp_types::json::{
-    FromJson, Members, Misfit, Object, ToJson, number_within, write_member, write_some,
+    FromJson, KnownMembers, Members, Misfit, ToJson, number_within, write_member, write_some,
+    write_with,
 };
 use lsp_types::{
     Command, DefinitionParams, DocumentSymbolParams, HoverParams, ProgressToken,
     TextDocumentIdentifier,
 };
 use serde_json::Value;
-use std::alloc::{AllocError, Global};
+use std::alloc::Global;
 
 /// A place to mark (LSP 3.17, "Document Highlights Request").
 #[derive(Drop)]
@@ -46,17 +48,10 @@ impl ToJson for DocumentHighlight {
         (codes "kind", option_map ⟦<DocumentHighlightKind as ToJson>⟧.stands it.kind)
         ∷ (codes "range", Some (⟦<Range as ToJson>⟧.stands it.range)) ∷ []) };
 
-    fn to_json(&self, alloc: Global) -> Result<Value, AllocError> {
-        Object::new(alloc)
-            .some("kind", &self.kind)
-            .member("range", &self.range)
-            .end()
-    }
-
-    fn write_json(&self, alloc: Global, out: &mut JsonWriter) -> Result<(), JsonWriteError> {
+    fn write_json<S: JsonSink>(&self, out: &mut S) -> Result<(), S::Error> {
         out.begin_object()?;
-        write_some(alloc, out, "kind", &self.kind)?;
-        write_member(alloc, out, "range", &self.range)?;
+        write_some(out, "kind", &self.kind)?;
+        write_member(out, "range", &self.range)?;
         out.end_object()
     }
 }
@@ -97,12 +92,8 @@ impl DocumentHighlightKind {
 impl ToJson for DocumentHighlightKind {
     ghost stands = { λ it. number (unsigned it.0) };
 
-    fn to_json(&self, alloc: Global) -> Result<Value, AllocError> {
-        self.0.to_json(alloc)
-    }
-
-    fn write_json(&self, alloc: Global, out: &mut JsonWriter) -> Result<(), JsonWriteError> {
-        self.0.write_json(alloc, out)
+    fn write_json<S: JsonSink>(&self, out: &mut S) -> Result<(), S::Error> {
+        self.0.write_json(out)
     }
 }
 
@@ -176,25 +167,14 @@ impl ToJson for FoldingRange {
         ∷ (codes "startCharacter", option_map ⟦<u32 as ToJson>⟧.stands it.start_character)
         ∷ (codes "startLine", Some (⟦<u32 as ToJson>⟧.stands it.start_line)) ∷ []) };
 
-    fn to_json(&self, alloc: Global) -> Result<Value, AllocError> {
-        Object::new(alloc)
-            .some("collapsedText", &self.collapsed_text)
-            .some("endCharacter", &self.end_character)
-            .member("endLine", &self.end_line)
-            .some("kind", &self.kind)
-            .some("startCharacter", &self.start_character)
-            .member("startLine", &self.start_line)
-            .end()
-    }
-
-    fn write_json(&self, alloc: Global, out: &mut JsonWriter) -> Result<(), JsonWriteError> {
+    fn write_json<S: JsonSink>(&self, out: &mut S) -> Result<(), S::Error> {
         out.begin_object()?;
-        write_some(alloc, out, "collapsedText", &self.collapsed_text)?;
-        write_some(alloc, out, "endCharacter", &self.end_character)?;
-        write_member(alloc, out, "endLine", &self.end_line)?;
-        write_some(alloc, out, "kind", &self.kind)?;
-        write_some(alloc, out, "startCharacter", &self.start_character)?;
-        write_member(alloc, out, "startLine", &self.start_line)?;
+        write_some(out, "collapsedText", &self.collapsed_text)?;
+        write_some(out, "endCharacter", &self.end_character)?;
+        write_member(out, "endLine", &self.end_line)?;
+        write_some(out, "kind", &self.kind)?;
+        write_some(out, "startCharacter", &self.start_character)?;
+        write_member(out, "startLine", &self.start_line)?;
         out.end_object()
     }
 }
@@ -261,13 +241,13 @@ impl ToJson for SelectionRangeParams {
         ∷ (codes "textDocument", Some (⟦<TextDocumentIdentifier as ToJson>⟧.stands it.text_document))
         ∷ (codes "workDoneToken", option_map ⟦<ProgressToken as ToJson>⟧.stands it.work_done_token) ∷ []) };
 
-    fn to_json(&self, alloc: Global) -> Result<Value, AllocError> {
-        Object::new(alloc)
-            .some("partialResultToken", &self.partial_result_token)
-            .member("positions", &self.positions)
-            .member("textDocument", &self.text_document)
-            .some("workDoneToken", &self.work_done_token)
-            .end()
+    fn write_json<S: JsonSink>(&self, out: &mut S) -> Result<(), S::Error> {
+        out.begin_object()?;
+        write_some(out, "partialResultToken", &self.partial_result_token)?;
+        write_member(out, "positions", &self.positions)?;
+        write_member(out, "textDocument", &self.text_document)?;
+        write_some(out, "workDoneToken", &self.work_done_token)?;
+        out.end_object()
     }
 }
 
@@ -348,17 +328,10 @@ impl ToJson for LinkedEditingRanges {
         (codes "ranges", Some (⟦<Vec<Range> as ToJson>⟧.stands it.ranges))
         ∷ (codes "wordPattern", option_map ⟦<String as ToJson>⟧.stands it.word_pattern) ∷ []) };
 
-    fn to_json(&self, alloc: Global) -> Result<Value, AllocError> {
-        Object::new(alloc)
-            .member("ranges", &self.ranges)
-            .some("wordPattern", &self.word_pattern)
-            .end()
-    }
-
-    fn write_json(&self, alloc: Global, out: &mut JsonWriter) -> Result<(), JsonWriteError> {
+    fn write_json<S: JsonSink>(&self, out: &mut S) -> Result<(), S::Error> {
         out.begin_object()?;
-        write_member(alloc, out, "ranges", &self.ranges)?;
-        write_some(alloc, out, "wordPattern", &self.word_pattern)?;
+        write_member(out, "ranges", &self.ranges)?;
+        write_some(out, "wordPattern", &self.word_pattern)?;
         out.end_object()
     }
 }
@@ -430,21 +403,12 @@ impl ToJson for Moniker {
         ∷ (codes "scheme", Some (⟦<String as ToJson>⟧.stands it.scheme))
         ∷ (codes "unique", Some (⟦<String as ToJson>⟧.stands it.unique)) ∷ []) };
 
-    fn to_json(&self, alloc: Global) -> Result<Value, AllocError> {
-        Object::new(alloc)
-            .member("identifier", &self.identifier)
-            .some("kind", &self.kind)
-            .member("scheme", &self.scheme)
-            .member("unique", &self.unique)
-            .end()
-    }
-
-    fn write_json(&self, alloc: Global, out: &mut JsonWriter) -> Result<(), JsonWriteError> {
+    fn write_json<S: JsonSink>(&self, out: &mut S) -> Result<(), S::Error> {
         out.begin_object()?;
-        write_member(alloc, out, "identifier", &self.identifier)?;
-        write_some(alloc, out, "kind", &self.kind)?;
-        write_member(alloc, out, "scheme", &self.scheme)?;
-        write_member(alloc, out, "unique", &self.unique)?;
+        write_member(out, "identifier", &self.identifier)?;
+        write_some(out, "kind", &self.kind)?;
+        write_member(out, "scheme", &self.scheme)?;
+        write_member(out, "unique", &self.unique)?;
         out.end_object()
     }
 }
@@ -518,31 +482,25 @@ impl CodeLens {
     }
 }
 
-impl ToJson for CodeLens {
-    ghost stands = { λ it. object_with (
-        (codes "command", option_map ⟦<Command as ToJson>⟧.stands it.command)
+impl KnownMembers for CodeLens {
+    ghost known = { λ it. (codes "command", option_map ⟦<Command as ToJson>⟧.stands it.command)
         ∷ (codes "data", option_map ⟦<Value as ToJson>⟧.stands it.«data»)
-        ∷ (codes "range", Some (⟦<Range as ToJson>⟧.stands it.range)) ∷ []) (option_map view it.more) };
+        ∷ (codes "range", Some (⟦<Range as ToJson>⟧.stands it.range)) ∷ [] };
 
-    fn to_json(&self, alloc: Global) -> Result<Value, AllocError> {
-        Object::new(alloc)
-            .some("command", &self.command)
-            .some("data", &self.data)
-            .member("range", &self.range)
-            .rest(&self.more)
-            .end()
-    }
-
-    fn write_json(&self, alloc: Global, out: &mut JsonWriter) -> Result<(), JsonWriteError> {
-        if self.more.is_some() {
-            let tree = self.to_json(alloc)?;
-            return out.value(&tree);
-        }
+    fn write_known<S: JsonSink>(&self, out: &mut S) -> Result<(), S::Error> {
         out.begin_object()?;
-        write_some(alloc, out, "command", &self.command)?;
-        write_some(alloc, out, "data", &self.data)?;
-        write_member(alloc, out, "range", &self.range)?;
+        write_some(out, "command", &self.command)?;
+        write_some(out, "data", &self.data)?;
+        write_member(out, "range", &self.range)?;
         out.end_object()
+    }
+}
+
+impl ToJson for CodeLens {
+    ghost stands = { λ it. object_with (⟦<CodeLens as KnownMembers>⟧.known it) (option_map view it.more) };
+
+    fn write_json<S: JsonSink>(&self, out: &mut S) -> Result<(), S::Error> {
+        write_with(out, self, &self.more)
     }
 }
 
@@ -620,34 +578,27 @@ impl DocumentLink {
     }
 }
 
-impl ToJson for DocumentLink {
-    ghost stands = { λ it. object_with (
-        (codes "data", option_map ⟦<Value as ToJson>⟧.stands it.«data»)
+impl KnownMembers for DocumentLink {
+    ghost known = { λ it. (codes "data", option_map ⟦<Value as ToJson>⟧.stands it.«data»)
         ∷ (codes "range", Some (⟦<Range as ToJson>⟧.stands it.range))
         ∷ (codes "target", option_map ⟦<String as ToJson>⟧.stands it.target)
-        ∷ (codes "tooltip", option_map ⟦<String as ToJson>⟧.stands it.tooltip) ∷ []) (option_map view it.more) };
+        ∷ (codes "tooltip", option_map ⟦<String as ToJson>⟧.stands it.tooltip) ∷ [] };
 
-    fn to_json(&self, alloc: Global) -> Result<Value, AllocError> {
-        Object::new(alloc)
-            .some("data", &self.data)
-            .member("range", &self.range)
-            .some("target", &self.target)
-            .some("tooltip", &self.tooltip)
-            .rest(&self.more)
-            .end()
-    }
-
-    fn write_json(&self, alloc: Global, out: &mut JsonWriter) -> Result<(), JsonWriteError> {
-        if self.more.is_some() {
-            let tree = self.to_json(alloc)?;
-            return out.value(&tree);
-        }
+    fn write_known<S: JsonSink>(&self, out: &mut S) -> Result<(), S::Error> {
         out.begin_object()?;
-        write_some(alloc, out, "data", &self.data)?;
-        write_member(alloc, out, "range", &self.range)?;
-        write_some(alloc, out, "target", &self.target)?;
-        write_some(alloc, out, "tooltip", &self.tooltip)?;
+        write_some(out, "data", &self.data)?;
+        write_member(out, "range", &self.range)?;
+        write_some(out, "target", &self.target)?;
+        write_some(out, "tooltip", &self.tooltip)?;
         out.end_object()
+    }
+}
+
+impl ToJson for DocumentLink {
+    ghost stands = { λ it. object_with (⟦<DocumentLink as KnownMembers>⟧.known it) (option_map view it.more) };
+
+    fn write_json<S: JsonSink>(&self, out: &mut S) -> Result<(), S::Error> {
+        write_with(out, self, &self.more)
     }
 }
 

@@ -5,13 +5,13 @@ ghost use Rattle.serde_json.specs.Data.{string};
 ghost use Rattle.lsp_types.specs.Json.{object_of};
 ghost use Rattle.lsp_types.specs.Reads.{IfFits, IsObject, Named, NoneReads, Optional, Required, ◌and◌};
 
-use lsp_json::{JsonRef, JsonWriteError, JsonWriter};
+use lsp_json::JsonRef;
+use lsp_json_write::JsonSink;
 use lsp_types::json::{
-    FromJson, Members, Misfit, Object, ToJson, fitting, write_member, write_some, write_text,
+    FromJson, Members, Misfit, ToJson, fitting, write_member, write_some, write_text,
 };
 use lsp_types::{Diagnostic, ProgressToken, TextDocumentIdentifier};
-use serde_json::Value;
-use std::alloc::{AllocError, Global};
+use std::alloc::Global;
 use std::collections::BTreeMap;
 
 /// The params of `textDocument/diagnostic` (LSP 3.17, "Document Diagnostics"). The result is a
@@ -39,14 +39,14 @@ impl ToJson for DocumentDiagnosticParams {
         ∷ (codes "textDocument", Some (⟦<TextDocumentIdentifier as ToJson>⟧.stands it.text_document))
         ∷ (codes "workDoneToken", option_map ⟦<ProgressToken as ToJson>⟧.stands it.work_done_token) ∷ []) };
 
-    fn to_json(&self, alloc: Global) -> Result<Value, AllocError> {
-        Object::new(alloc)
-            .some("identifier", &self.identifier)
-            .some("partialResultToken", &self.partial_result_token)
-            .some("previousResultId", &self.previous_result_id)
-            .member("textDocument", &self.text_document)
-            .some("workDoneToken", &self.work_done_token)
-            .end()
+    fn write_json<S: JsonSink>(&self, out: &mut S) -> Result<(), S::Error> {
+        out.begin_object()?;
+        write_some(out, "identifier", &self.identifier)?;
+        write_some(out, "partialResultToken", &self.partial_result_token)?;
+        write_some(out, "previousResultId", &self.previous_result_id)?;
+        write_member(out, "textDocument", &self.text_document)?;
+        write_some(out, "workDoneToken", &self.work_done_token)?;
+        out.end_object()
     }
 }
 
@@ -118,19 +118,11 @@ impl ToJson for FullDocumentDiagnosticReport {
         ∷ (codes "kind", Some (string (codes "full")))
         ∷ (codes "resultId", option_map ⟦<String as ToJson>⟧.stands it.result_id) ∷ []) };
 
-    fn to_json(&self, alloc: Global) -> Result<Value, AllocError> {
-        Object::new(alloc)
-            .member("items", &self.items)
-            .text("kind", "full")
-            .some("resultId", &self.result_id)
-            .end()
-    }
-
-    fn write_json(&self, alloc: Global, out: &mut JsonWriter) -> Result<(), JsonWriteError> {
+    fn write_json<S: JsonSink>(&self, out: &mut S) -> Result<(), S::Error> {
         out.begin_object()?;
-        write_member(alloc, out, "items", &self.items)?;
+        write_member(out, "items", &self.items)?;
         write_text(out, "kind", "full")?;
-        write_some(alloc, out, "resultId", &self.result_id)?;
+        write_some(out, "resultId", &self.result_id)?;
         out.end_object()
     }
 }
@@ -172,17 +164,10 @@ impl ToJson for UnchangedDocumentDiagnosticReport {
         (codes "kind", Some (string (codes "unchanged")))
         ∷ (codes "resultId", Some (⟦<String as ToJson>⟧.stands it.result_id)) ∷ []) };
 
-    fn to_json(&self, alloc: Global) -> Result<Value, AllocError> {
-        Object::new(alloc)
-            .text("kind", "unchanged")
-            .member("resultId", &self.result_id)
-            .end()
-    }
-
-    fn write_json(&self, alloc: Global, out: &mut JsonWriter) -> Result<(), JsonWriteError> {
+    fn write_json<S: JsonSink>(&self, out: &mut S) -> Result<(), S::Error> {
         out.begin_object()?;
         write_text(out, "kind", "unchanged")?;
-        write_member(alloc, out, "resultId", &self.result_id)?;
+        write_member(out, "resultId", &self.result_id)?;
         out.end_object()
     }
 }
@@ -227,17 +212,10 @@ impl ToJson for RelatedReport {
       | Unchanged it ↦ ⟦<UnchangedDocumentDiagnosticReport as ToJson>⟧.stands it
     ] };
 
-    fn to_json(&self, alloc: Global) -> Result<Value, AllocError> {
+    fn write_json<S: JsonSink>(&self, out: &mut S) -> Result<(), S::Error> {
         match self {
-            RelatedReport::Full(it) => it.to_json(alloc),
-            RelatedReport::Unchanged(it) => it.to_json(alloc),
-        }
-    }
-
-    fn write_json(&self, alloc: Global, out: &mut JsonWriter) -> Result<(), JsonWriteError> {
-        match self {
-            RelatedReport::Full(it) => it.write_json(alloc, out),
-            RelatedReport::Unchanged(it) => it.write_json(alloc, out),
+            RelatedReport::Full(it) => it.write_json(out),
+            RelatedReport::Unchanged(it) => it.write_json(out),
         }
     }
 }
@@ -299,21 +277,12 @@ impl ToJson for RelatedFullDocumentDiagnosticReport {
         ∷ (codes "relatedDocuments", option_map ⟦<BTreeMap<String, RelatedReport> as ToJson>⟧.stands it.related_documents)
         ∷ (codes "resultId", option_map ⟦<String as ToJson>⟧.stands it.result_id) ∷ []) };
 
-    fn to_json(&self, alloc: Global) -> Result<Value, AllocError> {
-        Object::new(alloc)
-            .member("items", &self.items)
-            .text("kind", "full")
-            .some("relatedDocuments", &self.related_documents)
-            .some("resultId", &self.result_id)
-            .end()
-    }
-
-    fn write_json(&self, alloc: Global, out: &mut JsonWriter) -> Result<(), JsonWriteError> {
+    fn write_json<S: JsonSink>(&self, out: &mut S) -> Result<(), S::Error> {
         out.begin_object()?;
-        write_member(alloc, out, "items", &self.items)?;
+        write_member(out, "items", &self.items)?;
         write_text(out, "kind", "full")?;
-        write_some(alloc, out, "relatedDocuments", &self.related_documents)?;
-        write_some(alloc, out, "resultId", &self.result_id)?;
+        write_some(out, "relatedDocuments", &self.related_documents)?;
+        write_some(out, "resultId", &self.result_id)?;
         out.end_object()
     }
 }
@@ -382,19 +351,11 @@ impl ToJson for RelatedUnchangedDocumentDiagnosticReport {
         ∷ (codes "relatedDocuments", option_map ⟦<BTreeMap<String, RelatedReport> as ToJson>⟧.stands it.related_documents)
         ∷ (codes "resultId", Some (⟦<String as ToJson>⟧.stands it.result_id)) ∷ []) };
 
-    fn to_json(&self, alloc: Global) -> Result<Value, AllocError> {
-        Object::new(alloc)
-            .text("kind", "unchanged")
-            .some("relatedDocuments", &self.related_documents)
-            .member("resultId", &self.result_id)
-            .end()
-    }
-
-    fn write_json(&self, alloc: Global, out: &mut JsonWriter) -> Result<(), JsonWriteError> {
+    fn write_json<S: JsonSink>(&self, out: &mut S) -> Result<(), S::Error> {
         out.begin_object()?;
         write_text(out, "kind", "unchanged")?;
-        write_some(alloc, out, "relatedDocuments", &self.related_documents)?;
-        write_member(alloc, out, "resultId", &self.result_id)?;
+        write_some(out, "relatedDocuments", &self.related_documents)?;
+        write_member(out, "resultId", &self.result_id)?;
         out.end_object()
     }
 }
@@ -444,17 +405,10 @@ impl ToJson for DocumentDiagnosticReport {
       | Unchanged it ↦ ⟦<RelatedUnchangedDocumentDiagnosticReport as ToJson>⟧.stands it
     ] };
 
-    fn to_json(&self, alloc: Global) -> Result<Value, AllocError> {
+    fn write_json<S: JsonSink>(&self, out: &mut S) -> Result<(), S::Error> {
         match self {
-            DocumentDiagnosticReport::Full(it) => it.to_json(alloc),
-            DocumentDiagnosticReport::Unchanged(it) => it.to_json(alloc),
-        }
-    }
-
-    fn write_json(&self, alloc: Global, out: &mut JsonWriter) -> Result<(), JsonWriteError> {
-        match self {
-            DocumentDiagnosticReport::Full(it) => it.write_json(alloc, out),
-            DocumentDiagnosticReport::Unchanged(it) => it.write_json(alloc, out),
+            DocumentDiagnosticReport::Full(it) => it.write_json(out),
+            DocumentDiagnosticReport::Unchanged(it) => it.write_json(out),
         }
     }
 }
@@ -492,11 +446,11 @@ impl ToJson for PreviousResultId {
         (codes "uri", Some (⟦<String as ToJson>⟧.stands it.uri))
         ∷ (codes "value", Some (⟦<String as ToJson>⟧.stands it.value)) ∷ []) };
 
-    fn to_json(&self, alloc: Global) -> Result<Value, AllocError> {
-        Object::new(alloc)
-            .member("uri", &self.uri)
-            .member("value", &self.value)
-            .end()
+    fn write_json<S: JsonSink>(&self, out: &mut S) -> Result<(), S::Error> {
+        out.begin_object()?;
+        write_member(out, "uri", &self.uri)?;
+        write_member(out, "value", &self.value)?;
+        out.end_object()
     }
 }
 
@@ -542,13 +496,13 @@ impl ToJson for WorkspaceDiagnosticParams {
         ∷ (codes "previousResultIds", Some (⟦<Vec<PreviousResultId> as ToJson>⟧.stands it.previous_result_ids))
         ∷ (codes "workDoneToken", option_map ⟦<ProgressToken as ToJson>⟧.stands it.work_done_token) ∷ []) };
 
-    fn to_json(&self, alloc: Global) -> Result<Value, AllocError> {
-        Object::new(alloc)
-            .some("identifier", &self.identifier)
-            .some("partialResultToken", &self.partial_result_token)
-            .member("previousResultIds", &self.previous_result_ids)
-            .some("workDoneToken", &self.work_done_token)
-            .end()
+    fn write_json<S: JsonSink>(&self, out: &mut S) -> Result<(), S::Error> {
+        out.begin_object()?;
+        write_some(out, "identifier", &self.identifier)?;
+        write_some(out, "partialResultToken", &self.partial_result_token)?;
+        write_member(out, "previousResultIds", &self.previous_result_ids)?;
+        write_some(out, "workDoneToken", &self.work_done_token)?;
+        out.end_object()
     }
 }
 
@@ -626,23 +580,13 @@ impl ToJson for WorkspaceFullDocumentDiagnosticReport {
         ∷ (codes "uri", Some (⟦<String as ToJson>⟧.stands it.uri))
         ∷ (codes "version", Some (⟦<Option<i32> as ToJson>⟧.stands it.version)) ∷ []) };
 
-    fn to_json(&self, alloc: Global) -> Result<Value, AllocError> {
-        Object::new(alloc)
-            .member("items", &self.items)
-            .text("kind", "full")
-            .some("resultId", &self.result_id)
-            .member("uri", &self.uri)
-            .member("version", &self.version)
-            .end()
-    }
-
-    fn write_json(&self, alloc: Global, out: &mut JsonWriter) -> Result<(), JsonWriteError> {
+    fn write_json<S: JsonSink>(&self, out: &mut S) -> Result<(), S::Error> {
         out.begin_object()?;
-        write_member(alloc, out, "items", &self.items)?;
+        write_member(out, "items", &self.items)?;
         write_text(out, "kind", "full")?;
-        write_some(alloc, out, "resultId", &self.result_id)?;
-        write_member(alloc, out, "uri", &self.uri)?;
-        write_member(alloc, out, "version", &self.version)?;
+        write_some(out, "resultId", &self.result_id)?;
+        write_member(out, "uri", &self.uri)?;
+        write_member(out, "version", &self.version)?;
         out.end_object()
     }
 }
@@ -718,21 +662,12 @@ impl ToJson for WorkspaceUnchangedDocumentDiagnosticReport {
         ∷ (codes "uri", Some (⟦<String as ToJson>⟧.stands it.uri))
         ∷ (codes "version", Some (⟦<Option<i32> as ToJson>⟧.stands it.version)) ∷ []) };
 
-    fn to_json(&self, alloc: Global) -> Result<Value, AllocError> {
-        Object::new(alloc)
-            .text("kind", "unchanged")
-            .member("resultId", &self.result_id)
-            .member("uri", &self.uri)
-            .member("version", &self.version)
-            .end()
-    }
-
-    fn write_json(&self, alloc: Global, out: &mut JsonWriter) -> Result<(), JsonWriteError> {
+    fn write_json<S: JsonSink>(&self, out: &mut S) -> Result<(), S::Error> {
         out.begin_object()?;
         write_text(out, "kind", "unchanged")?;
-        write_member(alloc, out, "resultId", &self.result_id)?;
-        write_member(alloc, out, "uri", &self.uri)?;
-        write_member(alloc, out, "version", &self.version)?;
+        write_member(out, "resultId", &self.result_id)?;
+        write_member(out, "uri", &self.uri)?;
+        write_member(out, "version", &self.version)?;
         out.end_object()
     }
 }
@@ -785,17 +720,10 @@ impl ToJson for WorkspaceDocumentDiagnosticReport {
       | Unchanged it ↦ ⟦<WorkspaceUnchangedDocumentDiagnosticReport as ToJson>⟧.stands it
     ] };
 
-    fn to_json(&self, alloc: Global) -> Result<Value, AllocError> {
+    fn write_json<S: JsonSink>(&self, out: &mut S) -> Result<(), S::Error> {
         match self {
-            WorkspaceDocumentDiagnosticReport::Full(it) => it.to_json(alloc),
-            WorkspaceDocumentDiagnosticReport::Unchanged(it) => it.to_json(alloc),
-        }
-    }
-
-    fn write_json(&self, alloc: Global, out: &mut JsonWriter) -> Result<(), JsonWriteError> {
-        match self {
-            WorkspaceDocumentDiagnosticReport::Full(it) => it.write_json(alloc, out),
-            WorkspaceDocumentDiagnosticReport::Unchanged(it) => it.write_json(alloc, out),
+            WorkspaceDocumentDiagnosticReport::Full(it) => it.write_json(out),
+            WorkspaceDocumentDiagnosticReport::Unchanged(it) => it.write_json(out),
         }
     }
 }
@@ -833,13 +761,9 @@ impl ToJson for WorkspaceDiagnosticReport {
     ghost stands = { λ it. object_of (
         (codes "items", Some (⟦<Vec<WorkspaceDocumentDiagnosticReport> as ToJson>⟧.stands it.items)) ∷ []) };
 
-    fn to_json(&self, alloc: Global) -> Result<Value, AllocError> {
-        Object::new(alloc).member("items", &self.items).end()
-    }
-
-    fn write_json(&self, alloc: Global, out: &mut JsonWriter) -> Result<(), JsonWriteError> {
+    fn write_json<S: JsonSink>(&self, out: &mut S) -> Result<(), S::Error> {
         out.begin_object()?;
-        write_member(alloc, out, "items", &self.items)?;
+        write_member(out, "items", &self.items)?;
         out.end_object()
     }
 }
@@ -871,10 +795,10 @@ impl ToJson for DiagnosticServerCancellationData {
     ghost stands = { λ it. object_of (
         (codes "retriggerRequest", Some (⟦<bool as ToJson>⟧.stands it.retrigger_request)) ∷ []) };
 
-    fn to_json(&self, alloc: Global) -> Result<Value, AllocError> {
-        Object::new(alloc)
-            .member("retriggerRequest", &self.retrigger_request)
-            .end()
+    fn write_json<S: JsonSink>(&self, out: &mut S) -> Result<(), S::Error> {
+        out.begin_object()?;
+        write_member(out, "retriggerRequest", &self.retrigger_request)?;
+        out.end_object()
     }
 }
 

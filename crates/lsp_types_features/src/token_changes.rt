@@ -4,13 +4,11 @@ ghost use Rattle.std.specs.Prelude.{◌∷◌, [], Some, codes, option_map};
 ghost use Rattle.lsp_types.specs.Json.{object_of};
 ghost use Rattle.lsp_types.specs.Reads.{IfFits, IsObject, NoneReads, Optional, Required, ◌and◌};
 
-use lsp_json::{JsonRef, JsonWriteError, JsonWriter};
-use lsp_types::json::{
-    FromJson, Members, Misfit, Object, ToJson, fitting, write_member, write_some,
-};
+use lsp_json::JsonRef;
+use lsp_json_write::JsonSink;
+use lsp_types::json::{FromJson, Members, Misfit, ToJson, fitting, write_member, write_some};
 use lsp_types::{ProgressToken, SemanticTokens, TextDocumentIdentifier};
-use serde_json::Value;
-use std::alloc::{AllocError, Global};
+use std::alloc::Global;
 
 /// The params of `textDocument/semanticTokens/full/delta` (LSP 3.17, "Semantic Tokens").
 #[derive(Drop)]
@@ -33,13 +31,13 @@ impl ToJson for SemanticTokensDeltaParams {
         ∷ (codes "textDocument", Some (⟦<TextDocumentIdentifier as ToJson>⟧.stands it.text_document))
         ∷ (codes "workDoneToken", option_map ⟦<ProgressToken as ToJson>⟧.stands it.work_done_token) ∷ []) };
 
-    fn to_json(&self, alloc: Global) -> Result<Value, AllocError> {
-        Object::new(alloc)
-            .some("partialResultToken", &self.partial_result_token)
-            .member("previousResultId", &self.previous_result_id)
-            .member("textDocument", &self.text_document)
-            .some("workDoneToken", &self.work_done_token)
-            .end()
+    fn write_json<S: JsonSink>(&self, out: &mut S) -> Result<(), S::Error> {
+        out.begin_object()?;
+        write_some(out, "partialResultToken", &self.partial_result_token)?;
+        write_member(out, "previousResultId", &self.previous_result_id)?;
+        write_member(out, "textDocument", &self.text_document)?;
+        write_some(out, "workDoneToken", &self.work_done_token)?;
+        out.end_object()
     }
 }
 
@@ -111,19 +109,11 @@ impl ToJson for SemanticTokensEdit {
         ∷ (codes "deleteCount", Some (⟦<u32 as ToJson>⟧.stands it.delete_count))
         ∷ (codes "start", Some (⟦<u32 as ToJson>⟧.stands it.start)) ∷ []) };
 
-    fn to_json(&self, alloc: Global) -> Result<Value, AllocError> {
-        Object::new(alloc)
-            .some("data", &self.data)
-            .member("deleteCount", &self.delete_count)
-            .member("start", &self.start)
-            .end()
-    }
-
-    fn write_json(&self, alloc: Global, out: &mut JsonWriter) -> Result<(), JsonWriteError> {
+    fn write_json<S: JsonSink>(&self, out: &mut S) -> Result<(), S::Error> {
         out.begin_object()?;
-        write_some(alloc, out, "data", &self.data)?;
-        write_member(alloc, out, "deleteCount", &self.delete_count)?;
-        write_member(alloc, out, "start", &self.start)?;
+        write_some(out, "data", &self.data)?;
+        write_member(out, "deleteCount", &self.delete_count)?;
+        write_member(out, "start", &self.start)?;
         out.end_object()
     }
 }
@@ -185,17 +175,10 @@ impl ToJson for SemanticTokensDelta {
         (codes "edits", Some (⟦<Vec<SemanticTokensEdit> as ToJson>⟧.stands it.edits))
         ∷ (codes "resultId", option_map ⟦<String as ToJson>⟧.stands it.result_id) ∷ []) };
 
-    fn to_json(&self, alloc: Global) -> Result<Value, AllocError> {
-        Object::new(alloc)
-            .member("edits", &self.edits)
-            .some("resultId", &self.result_id)
-            .end()
-    }
-
-    fn write_json(&self, alloc: Global, out: &mut JsonWriter) -> Result<(), JsonWriteError> {
+    fn write_json<S: JsonSink>(&self, out: &mut S) -> Result<(), S::Error> {
         out.begin_object()?;
-        write_member(alloc, out, "edits", &self.edits)?;
-        write_some(alloc, out, "resultId", &self.result_id)?;
+        write_member(out, "edits", &self.edits)?;
+        write_some(out, "resultId", &self.result_id)?;
         out.end_object()
     }
 }
@@ -237,17 +220,10 @@ impl ToJson for SemanticTokensDeltaResult {
       | Tokens it ↦ ⟦<SemanticTokens as ToJson>⟧.stands it
     ] };
 
-    fn to_json(&self, alloc: Global) -> Result<Value, AllocError> {
+    fn write_json<S: JsonSink>(&self, out: &mut S) -> Result<(), S::Error> {
         match self {
-            SemanticTokensDeltaResult::Delta(it) => it.to_json(alloc),
-            SemanticTokensDeltaResult::Tokens(it) => it.to_json(alloc),
-        }
-    }
-
-    fn write_json(&self, alloc: Global, out: &mut JsonWriter) -> Result<(), JsonWriteError> {
-        match self {
-            SemanticTokensDeltaResult::Delta(it) => it.write_json(alloc, out),
-            SemanticTokensDeltaResult::Tokens(it) => it.write_json(alloc, out),
+            SemanticTokensDeltaResult::Delta(it) => it.write_json(out),
+            SemanticTokensDeltaResult::Tokens(it) => it.write_json(out),
         }
     }
 }

@@ -5,10 +5,10 @@ ghost use Rattle.lsp_types.specs.Json.{object_of};
 ghost use Rattle.lsp_types.specs.Reads.{IsObject, NoneReads, Optional, Required, ◌and◌};
 
 use lsp_json::JsonRef;
+use lsp_json_write::JsonSink;
 use lsp_types::WorkspaceFolder;
-use lsp_types::json::{FromJson, Members, Misfit, Object, ToJson, fitting};
-use serde_json::Value;
-use std::alloc::{AllocError, Global};
+use lsp_types::json::{FromJson, Members, Misfit, ToJson, fitting, write_member, write_some};
+use std::alloc::Global;
 
 /// A file or a folder that is created (LSP 3.17, "FileCreate").
 #[derive(Drop)]
@@ -21,8 +21,10 @@ impl ToJson for FileCreate {
     ghost stands = { λ it. object_of (
         (codes "uri", Some (⟦<String as ToJson>⟧.stands it.uri)) ∷ []) };
 
-    fn to_json(&self, alloc: Global) -> Result<Value, AllocError> {
-        Object::new(alloc).member("uri", &self.uri).end()
+    fn write_json<S: JsonSink>(&self, out: &mut S) -> Result<(), S::Error> {
+        out.begin_object()?;
+        write_member(out, "uri", &self.uri)?;
+        out.end_object()
     }
 }
 
@@ -53,8 +55,10 @@ impl ToJson for CreateFilesParams {
     ghost stands = { λ it. object_of (
         (codes "files", Some (⟦<Vec<FileCreate> as ToJson>⟧.stands it.files)) ∷ []) };
 
-    fn to_json(&self, alloc: Global) -> Result<Value, AllocError> {
-        Object::new(alloc).member("files", &self.files).end()
+    fn write_json<S: JsonSink>(&self, out: &mut S) -> Result<(), S::Error> {
+        out.begin_object()?;
+        write_member(out, "files", &self.files)?;
+        out.end_object()
     }
 }
 
@@ -94,11 +98,11 @@ impl ToJson for FileRename {
         (codes "newUri", Some (⟦<String as ToJson>⟧.stands it.new_uri))
         ∷ (codes "oldUri", Some (⟦<String as ToJson>⟧.stands it.old_uri)) ∷ []) };
 
-    fn to_json(&self, alloc: Global) -> Result<Value, AllocError> {
-        Object::new(alloc)
-            .member("newUri", &self.new_uri)
-            .member("oldUri", &self.old_uri)
-            .end()
+    fn write_json<S: JsonSink>(&self, out: &mut S) -> Result<(), S::Error> {
+        out.begin_object()?;
+        write_member(out, "newUri", &self.new_uri)?;
+        write_member(out, "oldUri", &self.old_uri)?;
+        out.end_object()
     }
 }
 
@@ -134,8 +138,10 @@ impl ToJson for RenameFilesParams {
     ghost stands = { λ it. object_of (
         (codes "files", Some (⟦<Vec<FileRename> as ToJson>⟧.stands it.files)) ∷ []) };
 
-    fn to_json(&self, alloc: Global) -> Result<Value, AllocError> {
-        Object::new(alloc).member("files", &self.files).end()
+    fn write_json<S: JsonSink>(&self, out: &mut S) -> Result<(), S::Error> {
+        out.begin_object()?;
+        write_member(out, "files", &self.files)?;
+        out.end_object()
     }
 }
 
@@ -178,10 +184,10 @@ impl ToJson for FileOperationPatternOptions {
     ghost stands = { λ it. object_of (
         (codes "ignoreCase", option_map ⟦<bool as ToJson>⟧.stands it.ignore_case) ∷ []) };
 
-    fn to_json(&self, alloc: Global) -> Result<Value, AllocError> {
-        Object::new(alloc)
-            .some("ignoreCase", &self.ignore_case)
-            .end()
+    fn write_json<S: JsonSink>(&self, out: &mut S) -> Result<(), S::Error> {
+        out.begin_object()?;
+        write_some(out, "ignoreCase", &self.ignore_case)?;
+        out.end_object()
     }
 }
 
@@ -239,12 +245,12 @@ impl ToJson for FileOperationPattern {
         ∷ (codes "matches", option_map ⟦<String as ToJson>⟧.stands it.matches)
         ∷ (codes "options", option_map ⟦<FileOperationPatternOptions as ToJson>⟧.stands it.options) ∷ []) };
 
-    fn to_json(&self, alloc: Global) -> Result<Value, AllocError> {
-        Object::new(alloc)
-            .member("glob", &self.glob)
-            .some("matches", &self.matches)
-            .some("options", &self.options)
-            .end()
+    fn write_json<S: JsonSink>(&self, out: &mut S) -> Result<(), S::Error> {
+        out.begin_object()?;
+        write_member(out, "glob", &self.glob)?;
+        write_some(out, "matches", &self.matches)?;
+        write_some(out, "options", &self.options)?;
+        out.end_object()
     }
 }
 
@@ -305,11 +311,11 @@ impl ToJson for FileOperationFilter {
         (codes "pattern", Some (⟦<FileOperationPattern as ToJson>⟧.stands it.pattern))
         ∷ (codes "scheme", option_map ⟦<String as ToJson>⟧.stands it.scheme) ∷ []) };
 
-    fn to_json(&self, alloc: Global) -> Result<Value, AllocError> {
-        Object::new(alloc)
-            .member("pattern", &self.pattern)
-            .some("scheme", &self.scheme)
-            .end()
+    fn write_json<S: JsonSink>(&self, out: &mut S) -> Result<(), S::Error> {
+        out.begin_object()?;
+        write_member(out, "pattern", &self.pattern)?;
+        write_some(out, "scheme", &self.scheme)?;
+        out.end_object()
     }
 }
 
@@ -344,8 +350,10 @@ impl ToJson for FileOperationRegistrationOptions {
     ghost stands = { λ it. object_of (
         (codes "filters", Some (⟦<Vec<FileOperationFilter> as ToJson>⟧.stands it.filters)) ∷ []) };
 
-    fn to_json(&self, alloc: Global) -> Result<Value, AllocError> {
-        Object::new(alloc).member("filters", &self.filters).end()
+    fn write_json<S: JsonSink>(&self, out: &mut S) -> Result<(), S::Error> {
+        out.begin_object()?;
+        write_member(out, "filters", &self.filters)?;
+        out.end_object()
     }
 }
 
@@ -419,15 +427,15 @@ impl ToJson for FileOperationOptions {
         ∷ (codes "willDelete", option_map ⟦<FileOperationRegistrationOptions as ToJson>⟧.stands it.will_delete)
         ∷ (codes "willRename", option_map ⟦<FileOperationRegistrationOptions as ToJson>⟧.stands it.will_rename) ∷ []) };
 
-    fn to_json(&self, alloc: Global) -> Result<Value, AllocError> {
-        Object::new(alloc)
-            .some("didCreate", &self.did_create)
-            .some("didDelete", &self.did_delete)
-            .some("didRename", &self.did_rename)
-            .some("willCreate", &self.will_create)
-            .some("willDelete", &self.will_delete)
-            .some("willRename", &self.will_rename)
-            .end()
+    fn write_json<S: JsonSink>(&self, out: &mut S) -> Result<(), S::Error> {
+        out.begin_object()?;
+        write_some(out, "didCreate", &self.did_create)?;
+        write_some(out, "didDelete", &self.did_delete)?;
+        write_some(out, "didRename", &self.did_rename)?;
+        write_some(out, "willCreate", &self.will_create)?;
+        write_some(out, "willDelete", &self.will_delete)?;
+        write_some(out, "willRename", &self.will_rename)?;
+        out.end_object()
     }
 }
 
@@ -488,10 +496,10 @@ impl ToJson for BaseUri {
       | Folder it ↦ ⟦<WorkspaceFolder as ToJson>⟧.stands it
     ] };
 
-    fn to_json(&self, alloc: Global) -> Result<Value, AllocError> {
+    fn write_json<S: JsonSink>(&self, out: &mut S) -> Result<(), S::Error> {
         match self {
-            BaseUri::Uri(it) => it.to_json(alloc),
-            BaseUri::Folder(it) => it.to_json(alloc),
+            BaseUri::Uri(it) => it.write_json(out),
+            BaseUri::Folder(it) => it.write_json(out),
         }
     }
 }
@@ -529,11 +537,11 @@ impl ToJson for RelativePattern {
         (codes "baseUri", Some (⟦<BaseUri as ToJson>⟧.stands it.base_uri))
         ∷ (codes "pattern", Some (⟦<String as ToJson>⟧.stands it.pattern)) ∷ []) };
 
-    fn to_json(&self, alloc: Global) -> Result<Value, AllocError> {
-        Object::new(alloc)
-            .member("baseUri", &self.base_uri)
-            .member("pattern", &self.pattern)
-            .end()
+    fn write_json<S: JsonSink>(&self, out: &mut S) -> Result<(), S::Error> {
+        out.begin_object()?;
+        write_member(out, "baseUri", &self.base_uri)?;
+        write_member(out, "pattern", &self.pattern)?;
+        out.end_object()
     }
 }
 
@@ -574,10 +582,10 @@ impl ToJson for GlobPattern {
       | Relative it ↦ ⟦<RelativePattern as ToJson>⟧.stands it
     ] };
 
-    fn to_json(&self, alloc: Global) -> Result<Value, AllocError> {
+    fn write_json<S: JsonSink>(&self, out: &mut S) -> Result<(), S::Error> {
         match self {
-            GlobPattern::Pattern(it) => it.to_json(alloc),
-            GlobPattern::Relative(it) => it.to_json(alloc),
+            GlobPattern::Pattern(it) => it.write_json(out),
+            GlobPattern::Relative(it) => it.write_json(out),
         }
     }
 }
@@ -616,11 +624,11 @@ impl ToJson for FileSystemWatcher {
         (codes "globPattern", Some (⟦<GlobPattern as ToJson>⟧.stands it.glob_pattern))
         ∷ (codes "kind", option_map ⟦<u32 as ToJson>⟧.stands it.kind) ∷ []) };
 
-    fn to_json(&self, alloc: Global) -> Result<Value, AllocError> {
-        Object::new(alloc)
-            .member("globPattern", &self.glob_pattern)
-            .some("kind", &self.kind)
-            .end()
+    fn write_json<S: JsonSink>(&self, out: &mut S) -> Result<(), S::Error> {
+        out.begin_object()?;
+        write_member(out, "globPattern", &self.glob_pattern)?;
+        write_some(out, "kind", &self.kind)?;
+        out.end_object()
     }
 }
 
@@ -656,8 +664,10 @@ impl ToJson for DidChangeWatchedFilesRegistrationOptions {
     ghost stands = { λ it. object_of (
         (codes "watchers", Some (⟦<Vec<FileSystemWatcher> as ToJson>⟧.stands it.watchers)) ∷ []) };
 
-    fn to_json(&self, alloc: Global) -> Result<Value, AllocError> {
-        Object::new(alloc).member("watchers", &self.watchers).end()
+    fn write_json<S: JsonSink>(&self, out: &mut S) -> Result<(), S::Error> {
+        out.begin_object()?;
+        write_member(out, "watchers", &self.watchers)?;
+        out.end_object()
     }
 }
 

@@ -6,11 +6,12 @@ ghost use Rattle.lsp_types.specs.Json.{object_of};
 ghost use Rattle.lsp_types.specs.Reads.{IsObject, IsWithin, Optional, Required, ◌and◌};
 
 use lsp_json::JsonRef;
+use lsp_json_write::JsonSink;
 use lsp_text::ContentChange;
-use lsp_types::json::{FromJson, Members, Misfit, Object, ToJson, number_within};
+use lsp_types::json::{FromJson, Members, Misfit, ToJson, number_within, write_member, write_some};
 use lsp_types::{TextDocumentIdentifier, TextDocumentItem, VersionedTextDocumentIdentifier};
 use serde_json::Value;
-use std::alloc::{AllocError, Global};
+use std::alloc::Global;
 
 /// What a cell holds (LSP 3.17, "NotebookCellKind"). On reading, another number is refused.
 #[derive(Clone, Copy, Drop)]
@@ -26,8 +27,8 @@ impl NotebookCellKind {
 impl ToJson for NotebookCellKind {
     ghost stands = { λ it. number (unsigned it.0) };
 
-    fn to_json(&self, alloc: Global) -> Result<Value, AllocError> {
-        self.0.to_json(alloc)
+    fn write_json<S: JsonSink>(&self, out: &mut S) -> Result<(), S::Error> {
+        self.0.write_json(out)
     }
 }
 
@@ -56,11 +57,11 @@ impl ToJson for ExecutionSummary {
         (codes "executionOrder", Some (⟦<u32 as ToJson>⟧.stands it.execution_order))
         ∷ (codes "success", option_map ⟦<bool as ToJson>⟧.stands it.success) ∷ []) };
 
-    fn to_json(&self, alloc: Global) -> Result<Value, AllocError> {
-        Object::new(alloc)
-            .member("executionOrder", &self.execution_order)
-            .some("success", &self.success)
-            .end()
+    fn write_json<S: JsonSink>(&self, out: &mut S) -> Result<(), S::Error> {
+        out.begin_object()?;
+        write_member(out, "executionOrder", &self.execution_order)?;
+        write_some(out, "success", &self.success)?;
+        out.end_object()
     }
 }
 
@@ -107,13 +108,13 @@ impl ToJson for NotebookCell {
         ∷ (codes "kind", Some (⟦<NotebookCellKind as ToJson>⟧.stands it.kind))
         ∷ (codes "metadata", option_map ⟦<Value as ToJson>⟧.stands it.metadata) ∷ []) };
 
-    fn to_json(&self, alloc: Global) -> Result<Value, AllocError> {
-        Object::new(alloc)
-            .member("document", &self.document)
-            .some("executionSummary", &self.execution_summary)
-            .member("kind", &self.kind)
-            .some("metadata", &self.metadata)
-            .end()
+    fn write_json<S: JsonSink>(&self, out: &mut S) -> Result<(), S::Error> {
+        out.begin_object()?;
+        write_member(out, "document", &self.document)?;
+        write_some(out, "executionSummary", &self.execution_summary)?;
+        write_member(out, "kind", &self.kind)?;
+        write_some(out, "metadata", &self.metadata)?;
+        out.end_object()
     }
 }
 
@@ -169,14 +170,14 @@ impl ToJson for NotebookDocument {
         ∷ (codes "uri", Some (⟦<String as ToJson>⟧.stands it.uri))
         ∷ (codes "version", Some (⟦<i32 as ToJson>⟧.stands it.version)) ∷ []) };
 
-    fn to_json(&self, alloc: Global) -> Result<Value, AllocError> {
-        Object::new(alloc)
-            .member("cells", &self.cells)
-            .some("metadata", &self.metadata)
-            .member("notebookType", &self.notebook_type)
-            .member("uri", &self.uri)
-            .member("version", &self.version)
-            .end()
+    fn write_json<S: JsonSink>(&self, out: &mut S) -> Result<(), S::Error> {
+        out.begin_object()?;
+        write_member(out, "cells", &self.cells)?;
+        write_some(out, "metadata", &self.metadata)?;
+        write_member(out, "notebookType", &self.notebook_type)?;
+        write_member(out, "uri", &self.uri)?;
+        write_member(out, "version", &self.version)?;
+        out.end_object()
     }
 }
 
@@ -226,11 +227,11 @@ impl ToJson for DidOpenNotebookDocumentParams {
         (codes "cellTextDocuments", Some (⟦<Vec<TextDocumentItem> as ToJson>⟧.stands it.cell_text_documents))
         ∷ (codes "notebookDocument", Some (⟦<NotebookDocument as ToJson>⟧.stands it.notebook_document)) ∷ []) };
 
-    fn to_json(&self, alloc: Global) -> Result<Value, AllocError> {
-        Object::new(alloc)
-            .member("cellTextDocuments", &self.cell_text_documents)
-            .member("notebookDocument", &self.notebook_document)
-            .end()
+    fn write_json<S: JsonSink>(&self, out: &mut S) -> Result<(), S::Error> {
+        out.begin_object()?;
+        write_member(out, "cellTextDocuments", &self.cell_text_documents)?;
+        write_member(out, "notebookDocument", &self.notebook_document)?;
+        out.end_object()
     }
 }
 
@@ -274,11 +275,11 @@ impl ToJson for VersionedNotebookDocumentIdentifier {
         (codes "uri", Some (⟦<String as ToJson>⟧.stands it.uri))
         ∷ (codes "version", Some (⟦<i32 as ToJson>⟧.stands it.version)) ∷ []) };
 
-    fn to_json(&self, alloc: Global) -> Result<Value, AllocError> {
-        Object::new(alloc)
-            .member("uri", &self.uri)
-            .member("version", &self.version)
-            .end()
+    fn write_json<S: JsonSink>(&self, out: &mut S) -> Result<(), S::Error> {
+        out.begin_object()?;
+        write_member(out, "uri", &self.uri)?;
+        write_member(out, "version", &self.version)?;
+        out.end_object()
     }
 }
 
@@ -322,12 +323,12 @@ impl ToJson for NotebookCellArrayChange {
         ∷ (codes "deleteCount", Some (⟦<u32 as ToJson>⟧.stands it.delete_count))
         ∷ (codes "start", Some (⟦<u32 as ToJson>⟧.stands it.start)) ∷ []) };
 
-    fn to_json(&self, alloc: Global) -> Result<Value, AllocError> {
-        Object::new(alloc)
-            .some("cells", &self.cells)
-            .member("deleteCount", &self.delete_count)
-            .member("start", &self.start)
-            .end()
+    fn write_json<S: JsonSink>(&self, out: &mut S) -> Result<(), S::Error> {
+        out.begin_object()?;
+        write_some(out, "cells", &self.cells)?;
+        write_member(out, "deleteCount", &self.delete_count)?;
+        write_member(out, "start", &self.start)?;
+        out.end_object()
     }
 }
 
@@ -374,12 +375,12 @@ impl ToJson for NotebookCellStructure {
         ∷ (codes "didClose", option_map ⟦<Vec<TextDocumentIdentifier> as ToJson>⟧.stands it.did_close)
         ∷ (codes "didOpen", option_map ⟦<Vec<TextDocumentItem> as ToJson>⟧.stands it.did_open) ∷ []) };
 
-    fn to_json(&self, alloc: Global) -> Result<Value, AllocError> {
-        Object::new(alloc)
-            .member("array", &self.array)
-            .some("didClose", &self.did_close)
-            .some("didOpen", &self.did_open)
-            .end()
+    fn write_json<S: JsonSink>(&self, out: &mut S) -> Result<(), S::Error> {
+        out.begin_object()?;
+        write_member(out, "array", &self.array)?;
+        write_some(out, "didClose", &self.did_close)?;
+        write_some(out, "didOpen", &self.did_open)?;
+        out.end_object()
     }
 }
 
@@ -423,11 +424,11 @@ impl ToJson for NotebookCellTextChange {
         (codes "changes", Some (⟦<Vec<ContentChange> as ToJson>⟧.stands it.changes))
         ∷ (codes "document", Some (⟦<VersionedTextDocumentIdentifier as ToJson>⟧.stands it.document)) ∷ []) };
 
-    fn to_json(&self, alloc: Global) -> Result<Value, AllocError> {
-        Object::new(alloc)
-            .member("changes", &self.changes)
-            .member("document", &self.document)
-            .end()
+    fn write_json<S: JsonSink>(&self, out: &mut S) -> Result<(), S::Error> {
+        out.begin_object()?;
+        write_member(out, "changes", &self.changes)?;
+        write_member(out, "document", &self.document)?;
+        out.end_object()
     }
 }
 
@@ -468,12 +469,12 @@ impl ToJson for NotebookCellChanges {
         ∷ (codes "structure", option_map ⟦<NotebookCellStructure as ToJson>⟧.stands it.structure)
         ∷ (codes "textContent", option_map ⟦<Vec<NotebookCellTextChange> as ToJson>⟧.stands it.text_content) ∷ []) };
 
-    fn to_json(&self, alloc: Global) -> Result<Value, AllocError> {
-        Object::new(alloc)
-            .some("data", &self.data)
-            .some("structure", &self.structure)
-            .some("textContent", &self.text_content)
-            .end()
+    fn write_json<S: JsonSink>(&self, out: &mut S) -> Result<(), S::Error> {
+        out.begin_object()?;
+        write_some(out, "data", &self.data)?;
+        write_some(out, "structure", &self.structure)?;
+        write_some(out, "textContent", &self.text_content)?;
+        out.end_object()
     }
 }
 
@@ -517,11 +518,11 @@ impl ToJson for NotebookDocumentChangeEvent {
         (codes "cells", option_map ⟦<NotebookCellChanges as ToJson>⟧.stands it.cells)
         ∷ (codes "metadata", option_map ⟦<Value as ToJson>⟧.stands it.metadata) ∷ []) };
 
-    fn to_json(&self, alloc: Global) -> Result<Value, AllocError> {
-        Object::new(alloc)
-            .some("cells", &self.cells)
-            .some("metadata", &self.metadata)
-            .end()
+    fn write_json<S: JsonSink>(&self, out: &mut S) -> Result<(), S::Error> {
+        out.begin_object()?;
+        write_some(out, "cells", &self.cells)?;
+        write_some(out, "metadata", &self.metadata)?;
+        out.end_object()
     }
 }
 
@@ -562,11 +563,11 @@ impl ToJson for DidChangeNotebookDocumentParams {
         (codes "change", Some (⟦<NotebookDocumentChangeEvent as ToJson>⟧.stands it.change))
         ∷ (codes "notebookDocument", Some (⟦<VersionedNotebookDocumentIdentifier as ToJson>⟧.stands it.notebook_document)) ∷ []) };
 
-    fn to_json(&self, alloc: Global) -> Result<Value, AllocError> {
-        Object::new(alloc)
-            .member("change", &self.change)
-            .member("notebookDocument", &self.notebook_document)
-            .end()
+    fn write_json<S: JsonSink>(&self, out: &mut S) -> Result<(), S::Error> {
+        out.begin_object()?;
+        write_member(out, "change", &self.change)?;
+        write_member(out, "notebookDocument", &self.notebook_document)?;
+        out.end_object()
     }
 }
 
@@ -610,10 +611,10 @@ impl ToJson for DidSaveNotebookDocumentParams {
     ghost stands = { λ it. object_of (
         (codes "notebookDocument", Some (⟦<NotebookDocumentIdentifier as ToJson>⟧.stands it.notebook_document)) ∷ []) };
 
-    fn to_json(&self, alloc: Global) -> Result<Value, AllocError> {
-        Object::new(alloc)
-            .member("notebookDocument", &self.notebook_document)
-            .end()
+    fn write_json<S: JsonSink>(&self, out: &mut S) -> Result<(), S::Error> {
+        out.begin_object()?;
+        write_member(out, "notebookDocument", &self.notebook_document)?;
+        out.end_object()
     }
 }
 
@@ -652,11 +653,11 @@ impl ToJson for DidCloseNotebookDocumentParams {
         (codes "cellTextDocuments", Some (⟦<Vec<TextDocumentIdentifier> as ToJson>⟧.stands it.cell_text_documents))
         ∷ (codes "notebookDocument", Some (⟦<NotebookDocumentIdentifier as ToJson>⟧.stands it.notebook_document)) ∷ []) };
 
-    fn to_json(&self, alloc: Global) -> Result<Value, AllocError> {
-        Object::new(alloc)
-            .member("cellTextDocuments", &self.cell_text_documents)
-            .member("notebookDocument", &self.notebook_document)
-            .end()
+    fn write_json<S: JsonSink>(&self, out: &mut S) -> Result<(), S::Error> {
+        out.begin_object()?;
+        write_member(out, "cellTextDocuments", &self.cell_text_documents)?;
+        write_member(out, "notebookDocument", &self.notebook_document)?;
+        out.end_object()
     }
 }
 

@@ -115,6 +115,9 @@ fn say(said: &mut Said, json: &JsonRef<'_>) {
     if json.is_object() {
         said.push(" object");
     }
+    if json.has_others(&["a", "b"]) {
+        said.push(" others");
+    }
     if let Some(found) = json.as_bool() {
         said.push(" bool ");
         said.show(found);

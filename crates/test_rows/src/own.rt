@@ -4,10 +4,10 @@ ghost use Rattle.lsp_types.specs.Json.{object_of};
 ghost use Rattle.lsp_types.specs.Reads.{IsObject, Required, ◌and◌};
 
 use lsp_json::JsonRef;
-use lsp_types::json::{Members, Misfit, Object};
+use lsp_json_write::JsonSink;
+use lsp_types::json::{Members, Misfit, write_member};
 use lsp_types::{FromJson, Range, ToJson};
-use serde_json::Value;
-use std::alloc::{AllocError, Global};
+use std::alloc::Global;
 
 /// A note on a part of a text.
 #[derive(Drop)]
@@ -43,10 +43,10 @@ impl ToJson for Note {
         (codes "range", Some (⟦<Range as ToJson>⟧.stands it.range))
         ∷ (codes "text", Some (⟦<String as ToJson>⟧.stands it.text)) ∷ []) };
 
-    fn to_json(&self, alloc: Global) -> Result<Value, AllocError> {
-        Object::new(alloc)
-            .member("range", &self.range)
-            .member("text", &self.text)
-            .end()
+    fn write_json<S: JsonSink>(&self, out: &mut S) -> Result<(), S::Error> {
+        out.begin_object()?;
+        write_member(out, "range", &self.range)?;
+        write_member(out, "text", &self.text)?;
+        out.end_object()
     }
 }

@@ -4,7 +4,8 @@ use crate::messages::{text_in, value_in};
 use crate::more_types;
 use crate::said::{Said, ended};
 use lsp_documents::SyncOptions;
-use lsp_json::{JsonRef, JsonWriteError, JsonWriter};
+use lsp_json::JsonRef;
+use lsp_json_write::{JsonWriteError, JsonWriter};
 use lsp_types::json::Misfit;
 use lsp_types::{
     ApplyWorkspaceEditParams, ApplyWorkspaceEditResult, CancelParams, ChangeNotifications,
@@ -104,7 +105,7 @@ fn in_text<T: ToJson>(said: &mut Said, value: &T) -> String {
 
 fn text_of<T: ToJson>(alloc: Global, value: &T) -> Result<String, JsonWriteError> {
     let mut out = JsonWriter::new(alloc)?;
-    value.write_json(alloc, &mut out)?;
+    value.write_json(&mut out)?;
     Ok(out.into_string()?)
 }
 

@@ -19,6 +19,9 @@ pub fn beside(
 ) -> Result<Option<Value>, Misfit>
     ensures { ReadsAs (Beside (map (λ key. key.now) keys.now) (json_data value.now)) result }
 {
+    if value.is_object() && !value.has_others(keys) {
+        return Ok(None);
+    }
     if let Some(tree) = value.as_tree() {
         return tree_beside(alloc, tree, keys);
     }

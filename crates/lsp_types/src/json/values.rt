@@ -1,27 +1,22 @@
 // Plain values, lists and maps, as they are written.
-ghost use Rattle.std.specs.Prelude.{◌≡◌, map, option_map, string_bytes, unwrap_or, IfOk, Some};
+ghost use Rattle.std.specs.Prelude.{map, option_map, string_bytes, unwrap_or, Some};
 ghost use Rattle.serde_json.specs.Data.{array, boolean, null, number, string, unsigned};
 ghost use Rattle.serde_json.specs.Find.{of_float, of_integer};
 ghost use Rattle.serde_json.specs.View.{items_of, view};
 ghost use Rattle.lsp_types.specs.Json.{object_of};
 ghost use Rattle.lsp_types.specs.Written.{content_change, position, range};
 
-use crate::json::text_writing::{write_items, write_map};
-use crate::json::{Object, ToJson, write_member};
-use lsp_json::{JsonWriteError, JsonWriter};
+use crate::json::writing::{write_items, write_map};
+use crate::json::{ToJson, write_member, write_some};
+use lsp_json_write::JsonSink;
 use lsp_text::{ContentChange, Position, Range};
 use serde_json::Value;
-use std::alloc::{AllocError, Global};
 use std::collections::BTreeMap;
 
 impl ToJson for bool {
     ghost stands = { boolean };
 
-    fn to_json(&self, _alloc: Global) -> Result<Value, AllocError> {
-        Ok(Value::Bool(*self))
-    }
-
-    fn write_json(&self, _alloc: Global, out: &mut JsonWriter) -> Result<(), JsonWriteError> {
+    fn write_json<S: JsonSink>(&self, out: &mut S) -> Result<(), S::Error> {
         out.bool(*self)
     }
 }
@@ -29,11 +24,7 @@ impl ToJson for bool {
 impl ToJson for u32 {
     ghost stands = { λ n. number (unsigned n) };
 
-    fn to_json(&self, _alloc: Global) -> Result<Value, AllocError> {
-        Ok(Value::from(*self))
-    }
-
-    fn write_json(&self, _alloc: Global, out: &mut JsonWriter) -> Result<(), JsonWriteError> {
+    fn write_json<S: JsonSink>(&self, out: &mut S) -> Result<(), S::Error> {
         out.u64(u64::from(*self))
     }
 }
@@ -41,11 +32,7 @@ impl ToJson for u32 {
 impl ToJson for i32 {
     ghost stands = { λ z. number (of_integer z) };
 
-    fn to_json(&self, _alloc: Global) -> Result<Value, AllocError> {
-        Ok(Value::from(*self))
-    }
-
-    fn write_json(&self, _alloc: Global, out: &mut JsonWriter) -> Result<(), JsonWriteError> {
+    fn write_json<S: JsonSink>(&self, out: &mut S) -> Result<(), S::Error> {
         out.i64(i64::from(*self))
     }
 }
@@ -54,11 +41,7 @@ impl ToJson for i32 {
 impl ToJson for f64 {
     ghost stands = { λ x. unwrap_or (option_map number (of_float x)) null };
 
-    fn to_json(&self, _alloc: Global) -> Result<Value, AllocError> {
-        Ok(Value::from(*self))
-    }
-
-    fn write_json(&self, _alloc: Global, out: &mut JsonWriter) -> Result<(), JsonWriteError> {
+    fn write_json<S: JsonSink>(&self, out: &mut S) -> Result<(), S::Error> {
         out.f64(*self)
     }
 }
@@ -66,11 +49,7 @@ impl ToJson for f64 {
 impl ToJson for () {
     ghost stands = { λ _. null };
 
-    fn to_json(&self, _alloc: Global) -> Result<Value, AllocError> {
-        Ok(Value::Null)
-    }
-
-    fn write_json(&self, _alloc: Global, out: &mut JsonWriter) -> Result<(), JsonWriteError> {
+    fn write_json<S: JsonSink>(&self, out: &mut S) -> Result<(), S::Error> {
         out.null()
     }
 }
@@ -78,11 +57,7 @@ impl ToJson for () {
 impl ToJson for String {
     ghost stands = { λ text. string (string_bytes text) };
 
-    fn to_json(&self, alloc: Global) -> Result<Value, AllocError> {
-        Value::try_from_str(alloc, self.as_str())
-    }
-
-    fn write_json(&self, _alloc: Global, out: &mut JsonWriter) -> Result<(), JsonWriteError> {
+    fn write_json<S: JsonSink>(&self, out: &mut S) -> Result<(), S::Error> {
         out.str(self.as_str())
     }
 }
@@ -90,11 +65,7 @@ impl ToJson for String {
 impl ToJson for Value {
     ghost stands = { view };
 
-    fn to_json(&self, _alloc: Global) -> Result<Value, AllocError> {
-        self.clone()
-    }
-
-    fn write_json(&self, _alloc: Global, out: &mut JsonWriter) -> Result<(), JsonWriteError> {
+    fn write_json<S: JsonSink>(&self, out: &mut S) -> Result<(), S::Error> {
         out.value(self)
     }
 }
@@ -102,16 +73,9 @@ impl ToJson for Value {
 impl<T: ToJson> ToJson for Option<T> {
     ghost stands = { λ value. unwrap_or (option_map T.stands value) null };
 
-    fn to_json(&self, alloc: Global) -> Result<Value, AllocError> {
+    fn write_json<S: JsonSink>(&self, out: &mut S) -> Result<(), S::Error> {
         match self {
-            Some(value) => value.to_json(alloc),
-            None => Ok(Value::Null),
-        }
-    }
-
-    fn write_json(&self, alloc: Global, out: &mut JsonWriter) -> Result<(), JsonWriteError> {
-        match self {
-            Some(value) => value.write_json(alloc, out),
+            Some(value) => value.write_json(out),
             None => out.null(),
         }
     }
@@ -120,64 +84,27 @@ impl<T: ToJson> ToJson for Option<T> {
 impl<T: ToJson> ToJson for Vec<T> {
     ghost stands = { λ values. array (items_of (map T.stands values.items)) };
 
-    fn to_json(&self, alloc: Global) -> Result<Value, AllocError> {
-        match each_to_json(alloc, self.as_slice()) {
-            Ok(values) => Ok(Value::Array(values)),
-            Err(failed) => Err(failed),
-        }
+    fn write_json<S: JsonSink>(&self, out: &mut S) -> Result<(), S::Error> {
+        write_items(out, self.as_slice())
     }
-
-    fn write_json(&self, alloc: Global, out: &mut JsonWriter) -> Result<(), JsonWriteError> {
-        write_items(alloc, out, self.as_slice())
-    }
-}
-
-/// Each value of a list, as it is written.
-fn each_to_json<T: ToJson>(alloc: Global, values: &[T]) -> Result<Vec<Value>, AllocError>
-    ensures { IfOk result (λ found. map view found.items ≡ map T.stands values.now) }
-{
-    let mut found = Vec::new(alloc);
-    for value in values {
-        found.push(value.to_json(alloc)?)?;
-    }
-    Ok(found)
 }
 
 impl<T: ToJson> ToJson for BTreeMap<String, T> {
     ghost stands = { λ values. object_of
         (map (λ entry. (string_bytes entry.0, Some (T.stands entry.1))) values.entries) };
 
-    fn to_json(&self, alloc: Global) -> Result<Value, AllocError> {
-        map_to_json(alloc, self)
+    fn write_json<S: JsonSink>(&self, out: &mut S) -> Result<(), S::Error> {
+        write_map(out, self)
     }
-
-    fn write_json(&self, alloc: Global, out: &mut JsonWriter) -> Result<(), JsonWriteError> {
-        write_map(alloc, out, self)
-    }
-}
-
-/// A map, as it is written.
-fn map_to_json<T: ToJson>(alloc: Global, values: &BTreeMap<String, T>) -> Result<Value, AllocError>
-    ensures { IfOk result (λ value. view value ≡ object_of
-        (map (λ entry. (string_bytes entry.0, Some (T.stands entry.1))) values.now.entries)) }
-{
-    Object::new(alloc).each(values).end()
 }
 
 impl ToJson for Position {
     ghost stands = { position };
 
-    fn to_json(&self, alloc: Global) -> Result<Value, AllocError> {
-        Object::new(alloc)
-            .member("character", &self.character)
-            .member("line", &self.line)
-            .end()
-    }
-
-    fn write_json(&self, alloc: Global, out: &mut JsonWriter) -> Result<(), JsonWriteError> {
+    fn write_json<S: JsonSink>(&self, out: &mut S) -> Result<(), S::Error> {
         out.begin_object()?;
-        write_member(alloc, out, "character", &self.character)?;
-        write_member(alloc, out, "line", &self.line)?;
+        write_member(out, "character", &self.character)?;
+        write_member(out, "line", &self.line)?;
         out.end_object()
     }
 }
@@ -185,17 +112,10 @@ impl ToJson for Position {
 impl ToJson for Range {
     ghost stands = { range };
 
-    fn to_json(&self, alloc: Global) -> Result<Value, AllocError> {
-        Object::new(alloc)
-            .member("end", &self.end)
-            .member("start", &self.start)
-            .end()
-    }
-
-    fn write_json(&self, alloc: Global, out: &mut JsonWriter) -> Result<(), JsonWriteError> {
+    fn write_json<S: JsonSink>(&self, out: &mut S) -> Result<(), S::Error> {
         out.begin_object()?;
-        write_member(alloc, out, "end", &self.end)?;
-        write_member(alloc, out, "start", &self.start)?;
+        write_member(out, "end", &self.end)?;
+        write_member(out, "start", &self.start)?;
         out.end_object()
     }
 }
@@ -203,10 +123,10 @@ impl ToJson for Range {
 impl ToJson for ContentChange {
     ghost stands = { content_change };
 
-    fn to_json(&self, alloc: Global) -> Result<Value, AllocError> {
-        Object::new(alloc)
-            .some("range", &self.range)
-            .member("text", &self.text)
-            .end()
+    fn write_json<S: JsonSink>(&self, out: &mut S) -> Result<(), S::Error> {
+        out.begin_object()?;
+        write_some(out, "range", &self.range)?;
+        write_member(out, "text", &self.text)?;
+        out.end_object()
     }
 }

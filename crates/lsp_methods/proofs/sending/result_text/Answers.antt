@@ -1,7 +1,8 @@
 use Rattle.std.proofs.Common.{◌∙◌, ℕ, List, sym}
 use Rattle.std.proofs.lemmas.Option.{same_Some}
 use Rattle.serde_json.specs.Data.{Data}
-use Rattle.lsp_json.specs.Writer.{IsWrittenText}
+use Rattle.lsp_json_write.specs.Taken.{nothing}
+use Rattle.lsp_json_write.specs.Text.{IsWrittenText}
 use Rattle.lsp_message.specs.ResultText.{IsReadableText}
 use Rattle.lsp_methods.proofs.sending.result_text.Goals as goal
 
@@ -15,8 +16,8 @@ readable d text is = (
 
 pub from_text-requires : goal.from_text-requires
 from_text-requires g c = readable (g.T.ToJson.stands c.args.found.now) _
-    (c.in_ok-into_string-in-Ok.ensures c.in_ok-out.out _ c.in_ok-out.ensures c.in-Ok.ensures)
+    (c.in_ok-into_string-in-Ok.ensures _ (c.in-Ok.ensures nothing c.in_ok-out.ensures))
 
 pub returns-in-Ok : goal.returns-in-Ok
-returns-in-Ok g c = same_Some _ _ (sym c.from_text.ensures ∙ (c.in_ok-into_string-in-Ok.ensures c.in_ok-out.out
-    (g.T.ToJson.stands c.args.found.now) c.in_ok-out.ensures c.in-Ok.ensures).reads_back)
+returns-in-Ok g c = same_Some _ _ (sym c.from_text.ensures ∙ (c.in_ok-into_string-in-Ok.ensures
+    (g.T.ToJson.stands c.args.found.now) (c.in-Ok.ensures nothing c.in_ok-out.ensures)).reads_back)

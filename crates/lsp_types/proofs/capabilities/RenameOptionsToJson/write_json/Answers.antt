@@ -1,8 +1,8 @@
 use Rattle.std.proofs.Common.{refl}
-use Rattle.lsp_types.proofs.TextLemmas.{none_yet, whole}
+use Rattle.lsp_types.proofs.WriteLemmas.{◌then◌, whole}
 use Rattle.lsp_types.proofs.capabilities.RenameOptionsToJson.write_json.Goals as goal
 
 pub returns : goal.returns
-returns c = whole c.end_object.new.self _ c.end_object.ensures.ok (c.in_ok-write_some-2.ensures _ _ _
-    (c.in_ok-write_some.ensures _ _ _ (none_yet c.args.out.now c.begin_object.new.self
-    c.in_ok-begin_object.ensures.ok) refl) refl)
+returns g c = whole g.S.JsonSink.holds c.args.out.now c.begin_object.new.self _ c.end_object.new.self _ refl
+    c.in_ok-begin_object.ensures c.end_object.ensures (λ outer has. has then c.in_ok-write_some.ensures then
+    c.in_ok-write_some-2.ensures)

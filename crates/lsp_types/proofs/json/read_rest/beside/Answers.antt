@@ -1,7 +1,12 @@
-use Rattle.std.proofs.Common.{map}
+use Rattle.std.proofs.Common.{map, sym, ◌∙◌}
 use Rattle.lsp_types.specs.Reads.{Beside}
 use Rattle.lsp_types.proofs.ReadLemmas.{of_same}
+use Rattle.lsp_types.proofs.RestLemmas.{nothing_beside}
 use Rattle.lsp_types.proofs.json.read_rest.beside.Goals as goal
+
+pub returns-then-not-has_others : goal.returns-then-not-has_others
+returns-then-not-has_others c = nothing_beside _ _ (sym c.is_object.ensures ∙ c.if-is_object.true)
+    (sym c.has_others.ensures ∙ c.if-not-has_others.true)
 
 pub returns-in-Some : goal.returns-in-Some
 returns-in-Some c =

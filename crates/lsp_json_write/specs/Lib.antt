@@ -1,0 +1,3 @@
+pub mod Taken
+pub mod Text
+pub mod Tree

@@ -1,4 +1,0 @@
-use Rattle.lsp_types.proofs.edits.CreateFileOptionsToJson.to_json.Goals as goal
-
-pub returns : goal.returns
-returns c = c.end.ensures _ (c.some-2.ensures _ (c.some.ensures _ c.new.ensures))

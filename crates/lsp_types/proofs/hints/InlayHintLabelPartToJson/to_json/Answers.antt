@@ -1,5 +1,0 @@
-use Rattle.lsp_types.proofs.hints.InlayHintLabelPartToJson.to_json.Goals as goal
-
-pub returns : goal.returns
-returns c = c.end.ensures _ (c.member.ensures _ (c.some-3.ensures _ (c.some-2.ensures _ (c.some.ensures _
-    c.new.ensures))))

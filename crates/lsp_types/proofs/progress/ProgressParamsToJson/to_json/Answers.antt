@@ -1,4 +1,0 @@
-use Rattle.lsp_types.proofs.progress.ProgressParamsToJson.to_json.Goals as goal
-
-pub returns : goal.returns
-returns g c = c.end.ensures _ (c.member-2.ensures _ (c.member.ensures _ c.new.ensures))

@@ -1,5 +1,0 @@
-use Rattle.lsp_types_features.proofs.colors.ColorToJson.to_json.Goals as goal
-
-pub returns : goal.returns
-returns c = c.end.ensures _ (c.member-4.ensures _ (c.member-3.ensures _ (c.member-2.ensures _
-    (c.member.ensures _ c.new.ensures))))

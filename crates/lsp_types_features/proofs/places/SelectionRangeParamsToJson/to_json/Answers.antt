@@ -1,5 +1,0 @@
-use Rattle.lsp_types_features.proofs.places.SelectionRangeParamsToJson.to_json.Goals as goal
-
-pub returns : goal.returns
-returns c = c.end.ensures _ (c.some-2.ensures _ (c.member-2.ensures _ (c.member.ensures _ (c.some.ensures _
-    c.new.ensures))))
