@@ -4,46 +4,8 @@
 //!
 //! When run, it prints the results of some of the calls.
 //!
-//! These forms could not be had as they were asked for, or have a better form in their place. In the code such a line
-//! says `beyond`.
-//!
-//! - `Threaded { writer, answer }` has two more fields, `taken` and `given`: write `Threaded { writer, answer, .. }`.
-//!   The contract names the bytes that standard input gave, and only clauses see these fields. As ghost fields they
-//!   would need an `impl Model`, and with it a proof by hand of each function that reaches a field, also of yours.
-//! - `pump_words(..) -> u8` of `lsp_demo` returns a `PumpStatus`: the status and the same two accounts, for the same
-//!   reason.
-//! - `RelayRx::settle(rt, &RelayTx)` takes `&mut RelayTx`, and a clause says that it is unchanged. The channel compares
-//!   two passes by `&mut`.
-//! - `ReadFault` with thirteen cases has a fourteenth, `HeaderTooLong`, which only readers with a bound on the header
-//!   part return. A peer may send a header part that never ends.
-//! - Six cases of `Step` and ten of `Outcome`: there are also `Step::Tell` and `Refuse`, `Outcome::Told` and
-//!   `Notified`. Peers also send notifications and errors.
-//! - `WorldFault::NotReadBack` comes at the step that would write a deep message, not at its `Take`. So no premise
-//!   about `serde_json` is left.
-//! - `run_threads` leaves its reader alone, unless the input ended, and does not settle that relay. A silent client
-//!   would block the call.
-//! - Two relays of messages with room for one carry content parts in one direction and frames in the other, with room
-//!   for 32, and for 8 in `pump`. Each message would cost a sleep and a wake-up.
-//! - The channels of a `Connection` have room for 16 messages and 64 MB, not for one message, for the same reason and
-//!   to bound memory.
-//! - The threads of a `Connection` run loops of their own in place of `read_loop` and `write_loop`, over the same calls
-//!   for one message. They bound memory and batch frames.
-//! - `pump` and `Connection` make one write and one flush for all frames that wait, not for each message. That takes
-//!   fewer system calls.
-//! - "All of it was written", if only the flush failed, is tested and in no contract. Writing and flushing share one
-//!   fault.
-//! - `lsp_demo` writes its replies before it ends after most protocol errors. Half of the runs lost a reply. A client
-//!   that reads nothing now keeps the program from ending.
-//! - `Display` of `StartFault` and `WorldFault` is written out, with a clause. A derived `Display` (thiserror) has no
-//!   contract.
-//! - `ProtocolError` and `ExtractError` have `Error`. It costs nothing, and `?` into `anyhow` needs it.
-//! - `extract` reads the tree, not the compact text. The results are the same, and nothing is copied.
-//! - Tests inside modules are clauses, and test cases of `test_rows` and `test_live`. A crate with tests is proved
-//!   twice.
-//! - Wrong bodies are tried when they change, and ten in each run of the gate. All of them take three hours of
-//!   processor time.
-//! - What was asked for in `lsp_server` stands in smaller crates that it re-exports, and the dispatcher in
-//!   `lsp_server::dispatch`. A check takes seconds in place of an hour.
+//! `docs/DECISIONS.md` lists 24 forms under "Forms that were asked for in another way". In the code such a line says
+//! `beyond`.
 #![tactic(auto)]
 
 mod boxes;
