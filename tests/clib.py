@@ -8,6 +8,7 @@ import subprocess
 import sys
 import tempfile
 import time
+import zipfile
 from pathlib import Path
 
 sys.dont_write_bytecode = True
@@ -62,6 +63,18 @@ def check_versions():
     for path, where in places.items():
         expect(f"the version in {path.name}", int(re.search(where, path.read_text())[1]), number)
     expect("that of the package for Rust", re.search(r'version = "(.*)"', (BINDINGS / "rust/Cargo.toml").read_text())[1], version[0][3:])
+
+
+def check_licences(folder):
+    """The licences and NOTICE are in the folder and in each package."""
+    wheels = [zipfile.ZipFile(it) for it in folder.glob("*.whl")]
+    expect("how many wheels there are", len(wheels), 1)
+    for name in ("LICENSE-APACHE", "LICENSE-MIT", "NOTICE"):
+        text = (ROOT / name).read_bytes()
+        for place in (folder, folder / "rust", folder / "go"):
+            expect(f"{name} in {place.name}", (place / name).read_bytes() if (place / name).is_file() else None, text)
+        inside = [it for it in wheels[0].namelist() if it.endswith(f".dist-info/licenses/{name}")]
+        expect(f"{name} in the wheel", [wheels[0].read(it) for it in inside], [text])
 
 
 def check_symbols(folder):
@@ -143,7 +156,7 @@ def check():
         check_headers()
         check_versions()
         print(ended(ROOT / "tools/clib", folder), end="")
-        for step in (check_symbols, check_c, check_python, check_others):
+        for step in (check_licences, check_symbols, check_c, check_python, check_others):
             print(f"{step.__name__[6:]}, after {time.monotonic() - begin:.0f} s")
             sys.stdout.flush()
             step(folder)

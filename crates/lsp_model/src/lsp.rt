@@ -1,4 +1,5 @@
-// The methods of LSP 3.17 and their types. `tools/model` wrote this file from `tools/metamodel.txt`: do not change it.
+// The methods of LSP 3.17 and their types. `tools/model` wrote this file from `tools/metamodel.txt`: do not change it. It
+// was made from LSP's meta model, which is Copyright (c) Microsoft Corporation, under the MIT licence in the file NOTICE.
 
 use crate::form::{Form, Member};
 use crate::model::{Method, Model, Receiver};
