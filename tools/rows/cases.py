@@ -138,9 +138,7 @@ def case_answers(words, data, pauses):
         elif device == "passes":
             came = passes_answer(call, data)
         else:
-            # (on one thread `session` is a `ByteSession`, which takes bytes as they arrive)
-            name = "session alone" if (call, how) == ("session", "alone") else call
-            came = answer(name, device, count, data, shown_at_once == {True}, *kind)
+            came = answer(call, device, count, data, shown_at_once == {True}, *kind)
         if came != last:
             yield f"{count}: {came}"
         last = came

@@ -588,10 +588,11 @@ OF_BODY = [8, 9, 10, 13]
 
 def reads(data, limit=GREATEST, breaks=False):
     """What each read gives, and what is left after it. `breaks` says whether the reader fails after these bytes, also where they
-    are no whole frame. Otherwise they end."""
+    are no whole frame. Otherwise they end. Room for a content part is reserved before its first byte is read, so a refusal (11) comes
+    before the reader is asked again."""
     while True:
         came, data = read(data, limit)
-        is_cut = breaks and not data and not isinstance(came, dict) and came not in OF_BODY
+        is_cut = breaks and not data and not isinstance(came, dict) and came not in OF_BODY and came != 11
         yield (1 if is_cut else came), data
 
 
@@ -608,10 +609,9 @@ def messages_of(data, limit=GREATEST, breaks=False, room=GREATEST):
             return messages, "exit", left
 
 
-def served(server, data, breaks, limit, passes=False, room=GREATEST, reserves=True):
+def served(server, data, breaks, limit, passes=False, room=GREATEST):
     """What a session of a server with no capabilities says at its end, the messages that it sends for these bytes, and how many
-    content parts that are no messages it ignored, of each kind. Each reply is there before the next read. `reserves` says whether memory
-    for a content part is reserved before its bytes arrive. If not, a length that no memory holds is that of a part that is cut off."""
+    content parts that are no messages it ignored, of each kind. Each reply is there before the next read."""
     session, counts = Session(server, room), dict.fromkeys(OF_BODY, 0)
     for came, _ in reads(data, limit, breaks):
         if isinstance(came, dict):
@@ -621,7 +621,6 @@ def served(server, data, breaks, limit, passes=False, room=GREATEST, reserves=Tr
             # (what is passed over wakes the server)
             end = session.sends(server.woken())
         else:
-            came = 7 if came == 11 and not reserves else came
             end = AT_END[session.state] if came == "end" else "out of memory" if came == 11 else f"read fault {came}"
         if end:
             return end, session.sent, list(counts.values())
@@ -635,7 +634,6 @@ def pumped(data, breaks, limit):
 
 STREAMS = {
     "session": lambda *words: served(Echo(), *words)[:2],
-    "session alone": lambda *words: served(Echo(), *words, reserves=False)[:2],
     "speaks": lambda *words: served(Talker(), *words)[:2],
     "line": lambda *words: served(Talker(), *words)[:2],
     "tolerant": lambda data, breaks, limit: served(Talker() if limit == GREATEST else Unwoken(), data, breaks, limit, True)[:2],
@@ -705,6 +703,8 @@ def seen(device, count, data, kind="BrokenPipe"):
     """The bytes that a reader gives before it fails or they end, those that it keeps, and whether it fails."""
     # (a read that was interrupted goes on)
     breaks = device in ("breaks", "looks") and count <= len(data) and kind != "Interrupted"
+    if device == "huge":
+        return data, b"", True
     count = count if breaks or device == "ends" else len(data)
     return data[:count], data[count:] if breaks else b"", breaks
 

@@ -1,7 +1,7 @@
 -- What the place of a frame says of its bytes.
 use Rattle.std.proofs.Common.{◌≡◌, ◌≢◌, refl, sym, ap, subst, ◌∙◌, ℕ, ◌+◌, ◌-◌, ◌<◌, ◌≤◌, Bool, true, false, nat_lt}
 use Rattle.std.proofs.Common.{cond}
-use Rattle.std.proofs.Common.{eqb, get_or, MatchOption, List, [], ◌∷◌, ◌++◌, length, append_assoc, append-nil}
+use Rattle.std.proofs.Common.{eqb, get_or, IfOk, MatchOption, List, [], ◌∷◌, ◌++◌, length, append_assoc, append-nil}
 use Rattle.std.proofs.Common.{length-append, length-drop}
 use Rattle.std.proofs.Common.{take, drop, take_all, drop_of_length-le, le_refl, Option, Some, None, Result, Ok, Err}
 use Rattle.std.proofs.Common.{arith, inl, inr, ◌⊎◌, take-append-drop, true≢false, if◌then◌else◌}
@@ -33,7 +33,7 @@ use Rattle.lsp_session.specs.FramePlace.{HasNoFeed, IsLine, AreFields, InHeader,
 use Rattle.lsp_session.specs.FramePlace.{IsPlaceOf}
 use Rattle.lsp_session.specs.declared.loops.ReadEnd.TheVariants.{End as AtEnd, Fault as AtFault}
 use Rattle.lsp_session.specs.declared.loops.frame_input.Place.{Place}
-use Rattle.lsp_session.specs.declared.loops.frame_input.Place.TheVariants.{Header, Content, Fault}
+use Rattle.lsp_session.specs.declared.loops.frame_input.Place.TheVariants.{Header, Content, Fault, Unreserved}
 use Rattle.lsp_session.proofs.HeaderLines.{IsOpen, open_header, open_line, open_front, unended, header_at, front_at}
 use Rattle.lsp_session.proofs.HeaderLines.{fields_more, last_header, Leaves, leaves_then, open_leaves}
 use Rattle.lsp_session.proofs.HeaderLines.{last_front, no_feed_joined, fields_none}
@@ -47,6 +47,11 @@ pub added : {E : Type 0} (r : Result Unit E) (failed : Bool) (old x new : List �
     → new ≡ (if is_ok r then old ++ x else old) → new ≡ old ++ x
 added (Ok done) failed old x new fails is items = items
 added (Err fault) failed old x new fails is items = absurd (true≢false (sym fails ∙ is))
+
+-- what holds in any case
+pub if_any : {X E P : Type 0} (r : Result X E) → P → IfOk r (λ _. P)
+if_any (Ok x) p = p
+if_any (Err e) p = tt
 
 -- bytes for which there was no memory
 pub kept_whole : {E : Type 0} (r : Result Unit E) (failed : Bool) (old x new : List ℕ) → failed ≡ is_err r
@@ -514,6 +519,10 @@ module _ (limits : Limits) where
       → InContent limits text start size
   fault_content text fault start size is = absurd (cc (is))
 
+  pub fault_unreserved : (text : List ℕ) (fault : ReadFault) (size : ℕ) → Fault fault ≡ Unreserved size
+      → InContent limits text (length text) size
+  fault_unreserved text fault size is = absurd (cc (is))
+
   pub fault_fault : (text : List ℕ) (fault : ReadFault) → IsFaultOf limits text fault → (kind : ReadFault)
       → Fault fault ≡ Fault kind → IsFaultOf limits text kind
   fault_fault text fault begins kind is = subst (IsFaultOf limits text) (one is) begins
@@ -525,10 +534,14 @@ module _ (limits : Limits) where
       → length (drop start text) < size
   missing_part text start size here = omega (arith, length-drop start text, here.begun, here.short)
 
+  awaits_content : (text : List ℕ) (start size : ℕ) → InContent limits text start size → AwaitsMore limits text
+  awaits_content text start size here = subst (AwaitsMore limits) (take-append-drop start text)
+      (awaits_part size (take start text) (drop start text) here.header (missing_part text start size here))
+
   pub awaits_at : (text : List ℕ) (place : Place) → IsPlaceOf limits text place → AwaitsMore limits text
   awaits_at text (Header line given) here = awaits_line text line given here.fields here.unended here.fits
-  awaits_at text (Content start size) here = subst (AwaitsMore limits) (take-append-drop start text)
-      (awaits_part size (take start text) (drop start text) here.header (missing_part text start size here))
+  awaits_at text (Content start size) here = awaits_content text start size here
+  awaits_at text (Unreserved size) here = awaits_content text (length text) size here
   awaits_at text (Fault kind) here = absurd here
 
   -- memory ran out, and nothing was added
@@ -546,6 +559,10 @@ module _ (limits : Limits) where
   pub in_content : (text : List ℕ) (place : Place) → IsPlaceOf limits text place → (start size : ℕ)
       → place ≡ Content start size → InContent limits text start size
   in_content text place here start size is = subst (IsPlaceOf limits text) is here
+
+  pub in_unreserved : (text : List ℕ) (place : Place) → IsPlaceOf limits text place → (size : ℕ)
+      → place ≡ Unreserved size → InContent limits text (length text) size
+  in_unreserved text place here size is = subst (IsPlaceOf limits text) is here
 
   pub at_no_fault : (text : List ℕ) (place : Place) → IsPlaceOf limits text place → (kind : ReadFault)
       → place ≡ Fault kind → IsFaultOf limits text kind

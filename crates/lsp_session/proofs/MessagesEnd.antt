@@ -1,12 +1,15 @@
 -- What ended the messages of a session between bytes.
 use Rattle.std.proofs.Common.{◌≡◌, ◌≢◌, ◌⊎◌, refl, sym, subst, ◌∙◌, inl, inr, ℕ, List, [], Option, Some, None}
-use Rattle.std.proofs.Common.{append-nil, IsSomeAnd, Err}
+use Rattle.std.proofs.Common.{append-nil, ap, take, drop, length, ◌+◌, ◌-◌, IsSomeAnd, Err}
+use Rattle.std.proofs.lemmas.List.{drop-drop}
 use Rattle.lsp_message.specs.Frame.{reading_within}
 use Rattle.lsp_message.specs.Message.{Message}
 use Rattle.lsp_message.specs.declared.frame.ReadFault.{ReadFault}
 use Rattle.lsp_message.specs.declared.frame.ReadFault.TheVariants.{Memory}
 use Rattle.lsp_message.specs.declared.frame.limits.Limits.{Limits}
 use Rattle.lsp_session.proofs.ByteHistory.{over_stays}
+use Rattle.lsp_session.proofs.FramePlaces.{tail_of}
+use Rattle.lsp_session.specs.FramePlace.{RanOut}
 use Rattle.lsp_session.specs.ByteSession.{AwaitsMore, BeginsWithFault, Comes, IsEndOf, Standing, StopsOtherwise}
 use Rattle.lsp_session.specs.ByteSession.{WritesTurn}
 use Rattle.lsp_session.specs.ByteSessions.{standing, EndIsKnown, EndsAtFrame, KnowsEnd}
@@ -134,3 +137,10 @@ ends_otherwise new end is = λ over unended. absurd (never (sym unended ∙ is))
   where
     never : None ≡ Some end → ⊥
     never e = cc (e)
+
+-- memory ran out at a later part of a piece
+pub ran_out_more : (limits limits' : Limits) (text bytes : List ℕ) (n r : ℕ) → limits' ≡ limits
+    → RanOut limits' text (drop r (take (length bytes - n) (drop n bytes))) → RanOut limits text (drop (n + r) bytes)
+ran_out_more limits limits' text bytes n r same out =
+    subst (λ (l : Limits). RanOut l text (drop (n + r) bytes)) same (subst (λ (l : List ℕ). RanOut limits' text l)
+    (ap (drop r) (tail_of n bytes) ∙ drop-drop r n bytes) out)

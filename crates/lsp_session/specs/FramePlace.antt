@@ -1,5 +1,5 @@
 -- The place that a frame has reached, of which the bytes come in pieces (LSP 3.17, "Base Protocol").
-use Rattle.std.specs.Prelude.{◌≡◌, ◌≢◌, ◌<◌, ◌≤◌, ◌+◌, ◌++◌, ◌∷◌, ℕ, List, [], length, take, drop, slice_index}
+use Rattle.std.specs.Prelude.{◌≡◌, ◌≢◌, ◌⊎◌, ◌<◌, ◌≤◌, ◌+◌, ◌++◌, ◌∷◌, ℕ, List, [], length, take, drop, slice_index}
 use Rattle.std.specs.Prelude.{Option, Some, Ok}
 use Rattle.std.specs.Result.{result_err}
 use Rattle.lsp_message.specs.Frame.{reading_within, header_under}
@@ -9,7 +9,7 @@ use Rattle.lsp_message.specs.declared.frame.ReadFault.{ReadFault}
 use Rattle.lsp_message.specs.declared.frame.ReadFault.TheVariants.{Memory}
 use Rattle.lsp_message.specs.declared.frame.limits.Limits.{Limits}
 use Rattle.lsp_session.specs.declared.loops.frame_input.Place.{Place}
-use Rattle.lsp_session.specs.declared.loops.frame_input.Place.TheVariants.{Header, Content, Fault}
+use Rattle.lsp_session.specs.declared.loops.frame_input.Place.TheVariants.{Header, Content, Fault, Unreserved}
 
 -- no byte is a line feed
 abbrev pub HasNoFeed : List ℕ → Type 0
@@ -57,4 +57,13 @@ pub record IsFaultOf (limits : Limits) (text : List ℕ) (fault : ReadFault) : T
 abbrev pub IsPlaceOf : Limits → List ℕ → Place → Type 0
 IsPlaceOf limits text (Header line given) = InHeader limits text line given
 IsPlaceOf limits text (Content start size) = InContent limits text start size
+IsPlaceOf limits text (Unreserved size) = InContent limits text (length text) size
 IsPlaceOf limits text (Fault kind) = ⊥
+
+-- Memory ran out at this text, of which the bytes that follow were shown and not taken: for a line of a header part
+-- that has not ended; for the content part, of which no byte was taken; or for the message of a content part that is
+-- whole with the bytes that follow. So it never runs out in the middle of a content part.
+abbrev pub RanOut : Limits → List ℕ → List ℕ → Type 0
+RanOut limits text more = ((line : ℕ) × (given : Option ℕ) × InHeader limits text line given)
+    ⊎ (((size : ℕ) × InContent limits text (length text) size)
+    ⊎ ((start : ℕ) × (size : ℕ) × InContent limits text start size × (start + size ≤ length text + length more)))

@@ -118,6 +118,7 @@ pub fn source(
     let (fails_at, shows_on) = match run.device {
         Device::Breaks => (Some(run.count), false),
         Device::Looks => (Some(run.count), true),
+        Device::Huge => (Some(bytes.len()), false),
         _ => (None, false),
     };
     Ok(Source {

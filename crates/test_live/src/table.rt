@@ -172,7 +172,8 @@ pub enum Device {
     Headers,
     /// The connection has a bound: what is unread weighs at most so much.
     Bounds,
-    /// No memory holds the content part, so the refusal is the answer. The count is the limit, or 0 if there is none.
+    /// No memory holds the content part, so the refusal is the answer. The reader fails if it is asked for more than the
+    /// text. The count is the limit, or 0 if there is none.
     Huge,
     /// The reader waits after so many bytes until the bytes that the case names were written and flushed.
     Waits,

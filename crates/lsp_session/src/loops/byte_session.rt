@@ -3,9 +3,11 @@ ghost use Rattle.std.specs.Prelude.{◌≡◌, ◌≤◌, ◌<◌, ◌⊎◌, []
 ghost use Rattle.lsp_session.specs.ByteSession.{BeginsWithFault, Comes, Goes, IsEndOf};
 ghost use Rattle.lsp_session.specs.ByteSessions.{standing, unread, EndsAtFrame, HasServed, KeepsBounds, KnowsEnd, PausesAtFrame};
 ghost use Rattle.lsp_session.specs.Event.{closed, timeout, woken};
+ghost use Rattle.lsp_session.specs.FramePlace.{RanOut};
 ghost use Rattle.lsp_session.specs.Machine.{awaited_in, came_view, outcome_of};
 ghost use Rattle.lsp_session.specs.SessionFault.{session_answer as session_answer_spec};
 ghost use Rattle.lsp_session.specs.TransportTurn.{IsOver};
+ghost use Rattle.lsp_message.specs.declared.frame.ReadFault.TheVariants.{Memory};
 ghost use Rattle.lsp_session.specs.declared.loops.ReadEnd.TheVariants.{Fault};
 ghost use Rattle.lsp_session.specs.declared.loops.machine.Stage.TheVariants as stage;
 
@@ -34,7 +36,8 @@ use std::alloc::Global;
 ///
 /// At bytes that are no message the session ends, as one with the policy `EndOnBadContent` does. `into_parts` then returns
 /// `SessionFault::Read`, and the bytes stay unread. If memory runs out, the session ends, and `into_parts` returns
-/// `SessionFault::Memory`.
+/// `SessionFault::Memory`. The room of a content part is reserved where its header part ends. So a length that no memory
+/// holds ends the session there, before a byte of the content part comes.
 ///
 /// This loop runs a session on a reader and a writer. `input` holds the bytes that were read and not taken:
 ///
@@ -123,6 +126,8 @@ impl<S: Service> ByteSession<S> {
         ensures paused { PausesAtFrame self.old → PausesAtFrame self.new }
         ensures served { HasServed self.old → HasServed self.new }
         ensures known { KnowsEnd self.old → KnowsEnd self.new }
+        ensures memory { KnowsEnd self.old → (IsOver (standing self.old).stage → ⊥) → self.new.end ≡ Some (Fault Memory)
+            → RanOut self.old.input.limits (unread self.new) (drop_front result bytes.now) }
         ensures kept { KeepsBounds self.old self.new }
     {
         let mut taken = 0;
@@ -144,6 +149,8 @@ impl<S: Service> ByteSession<S> {
         ensures paused { PausesAtFrame self.new }
         ensures served { HasServed self.new }
         ensures known { KnowsEnd self.old → KnowsEnd self.new }
+        ensures memory { KnowsEnd self.old → self.new.end ≡ Some (Fault Memory)
+            → RanOut self.old.input.limits (unread self.new) (drop_front result bytes.now) }
         ensures kept { KeepsBounds self.old self.new }
     {
         let reads_calls = self.core.awaits() == Awaits::MessageOrWake && self.service.reads_calls();
@@ -164,6 +171,7 @@ impl<S: Service> ByteSession<S> {
         ensures goes { Goes self.old.input.limits self.old.most_pending S.behavior (standing self.old) (unread self.old)
             self.old.end [] (standing self.new) (unread self.new) self.new.end }
         ensures ends { self.new.end ≡ Some (Fault fault) }
+        ensures unread { unread self.new ≡ unread self.old }
         ensures paused { PausesAtFrame self.new }
         ensures known { KnowsEnd self.new }
         ensures over { IsOver (standing self.new).stage }

@@ -1,11 +1,11 @@
 // The frame of one message, gathered from bytes that come in pieces.
-ghost use Rattle.std.specs.Prelude.{◌≡◌, ◌≢◌, ◌⊎◌, ◌<◌, ◌≤◌, ◌+◌, ◌++◌, [], ℕ, Option, length, drop as drop_front, take, Ok, Some, None, IfOk, IfErr, IsTrue, MatchOption};
+ghost use Rattle.std.specs.Prelude.{◌≡◌, ◌≢◌, ◌⊎◌, ◌<◌, ◌≤◌, ◌+◌, ◌++◌, [], ℕ, Option, length, drop as drop_front, take, Ok, Err, Some, None, IfOk, IfErr, IsTrue, MatchOption, vec_capacity};
 ghost use Rattle.lsp_session.specs.ByteSession.{AwaitsMore, IsEndOf, ReadsOne};
-ghost use Rattle.lsp_session.specs.FramePlace.{AreFields, HasNoFeed, InContent, InHeader, IsFaultOf, IsLine, IsPlaceOf};
+ghost use Rattle.lsp_session.specs.FramePlace.{AreFields, HasNoFeed, InContent, InHeader, IsFaultOf, IsLine, IsPlaceOf, RanOut};
 ghost use Rattle.lsp_message.specs.declared.frame.ReadFault.{ReadFault};
 ghost use Rattle.lsp_message.specs.declared.frame.ReadFault.TheVariants.{Memory};
 ghost use Rattle.lsp_session.specs.declared.loops.ReadEnd.TheVariants.{End as AtEnd, Fault as AtFault};
-ghost use Rattle.lsp_session.specs.declared.loops.frame_input.Place.TheVariants.{Content, Fault, Header};
+ghost use Rattle.lsp_session.specs.declared.loops.frame_input.Place.TheVariants.{Content, Fault, Header, Unreserved};
 
 use crate::loops::ReadEnd;
 use crate::loops::incoming::Incoming;
@@ -22,12 +22,15 @@ pub(crate) enum Place {
     Header(usize, Option<u64>),
     /// In the content part. It begins at the first number, and the second is its length.
     Content(usize, usize),
+    /// At the end of the header part. The content part has so many bytes, and no room is reserved for it.
+    Unreserved(usize),
     /// The bytes begin with this fault.
     Fault(ReadFault),
 }
 
 /// Gathers the frame of one message (LSP 3.17, "Base Protocol"), and no byte after it. It looks at each line of a
-/// header part once, and knows from then on where the frame ends.
+/// header part once, and knows from then on where the frame ends. The room of the content part is reserved where the
+/// header part ends, so no byte of it is taken that there is no room for.
 #[derive(Drop)]
 pub(crate) struct FrameInput {
     alloc: Global,
@@ -36,6 +39,8 @@ pub(crate) struct FrameInput {
     place: Place,
     ghost header: { (line : ℕ) → (given : Option ℕ) → place ≡ Header line given → InHeader limits bytes.items line given },
     ghost content: { (start size : ℕ) → place ≡ Content start size → InContent limits bytes.items start size },
+    ghost reserved: { (start size : ℕ) → place ≡ Content start size → start + size ≤ vec_capacity bytes },
+    ghost unreserved: { (size : ℕ) → place ≡ Unreserved size → InContent limits bytes.items (length bytes.items) size },
     ghost fault: { (kind : ReadFault) → place ≡ Fault kind → IsFaultOf limits bytes.items kind },
 }
 
@@ -59,7 +64,11 @@ impl FrameInput {
     /// no tree is made of a call.
     ///
     /// After a fault of the bytes they stay, and each further call returns the fault again and adds none. They are then
-    /// the bytes that a reader takes to find the fault. If memory runs out, the fault is `Memory`, and nothing was added.
+    /// the bytes that a reader takes to find the fault.
+    ///
+    /// If memory runs out, the fault is `Memory`. For the room of the content part it runs out where the header part
+    /// ends, and no byte of the content part was added. Each further call then returns the fault again. For a line, or
+    /// for the message of a content part that is whole, nothing was added.
     pub(crate) fn receive(
         &mut self,
         piece: &[u8],
@@ -69,6 +78,7 @@ impl FrameInput {
         ensures within { result.0 ≤ length piece.now }
         ensures some { IfOk result.1 (λ _. 0 < length piece.now → 0 < result.0) }
         ensures read { ReadsOne self.old.limits (self.old.bytes.items ++ take result.0 piece.now) result.1 self.new.bytes.items }
+        ensures memory { result.1 ≡ Err Memory → RanOut self.old.limits self.new.bytes.items (drop_front result.0 piece.now) }
         ensures awaits { IfOk result.1 (λ _. AwaitsMore self.new.limits self.new.bytes.items) }
         ensures limits { self.new.limits ≡ self.old.limits }
     {
@@ -77,6 +87,7 @@ impl FrameInput {
             Place::Content(start, size) => {
                 self.receive_content(start, size, piece, calls, reads_calls)
             }
+            Place::Unreserved(_) => (0, Err(ReadFault::Memory)),
             Place::Fault(fault) => (0, Err(fault)),
         }
     }
@@ -92,6 +103,7 @@ impl FrameInput {
         ensures within { result.0 ≤ length piece.now }
         ensures some { IfOk result.1 (λ _. 0 < length piece.now → 0 < result.0) }
         ensures read { ReadsOne self.old.limits (self.old.bytes.items ++ take result.0 piece.now) result.1 self.new.bytes.items }
+        ensures memory { result.1 ≡ Err Memory → RanOut self.old.limits self.new.bytes.items (drop_front result.0 piece.now) }
         ensures awaits { IfOk result.1 (λ _. AwaitsMore self.new.limits self.new.bytes.items) }
         ensures limits { self.new.limits ≡ self.old.limits }
     {
@@ -100,6 +112,10 @@ impl FrameInput {
             return (0, Err(ReadFault::Memory));
         }
         match place_in_header(self.limits, self.bytes.as_slice(), line, given) {
+            Ok(Place::Unreserved(size)) => {
+                self.place = Place::Unreserved(size);
+                (count, self.begin_content(size))
+            }
             Ok(place) => {
                 self.place = place;
                 (count, Ok(None))
@@ -109,6 +125,21 @@ impl FrameInput {
                 (count, Err(fault))
             }
         }
+    }
+
+    /// Reserves the room of the content part, which has so many bytes, where the header part ended.
+    fn begin_content(&mut self, size: usize) -> Result<Option<Incoming>, ReadFault>
+        requires here { self.old.place ≡ Unreserved size }
+        ensures read { ReadsOne self.old.limits self.old.bytes.items result self.new.bytes.items }
+        ensures memory { result ≡ Err Memory → InContent self.old.limits self.new.bytes.items (length self.new.bytes.items) size }
+        ensures awaits { IfOk result (λ _. AwaitsMore self.new.limits self.new.bytes.items) }
+        ensures limits { self.new.limits ≡ self.old.limits }
+    {
+        if self.bytes.reserve_exact(size).is_err() {
+            return Err(ReadFault::Memory);
+        }
+        self.place = Place::Content(self.bytes.len(), size);
+        Ok(None)
     }
 
     /// Returns how many bytes of the piece belong to the line, up to one byte above the bound of the header part.
@@ -132,7 +163,7 @@ impl FrameInput {
     }
 
     /// Adds bytes of the content part, which begins at `start` and has `size` bytes, and reads the message if that is
-    /// whole.
+    /// whole. There is room for the bytes.
     fn receive_content(
         &mut self,
         start: usize,
@@ -145,15 +176,14 @@ impl FrameInput {
         ensures within { result.0 ≤ length piece.now }
         ensures some { IfOk result.1 (λ _. 0 < length piece.now → 0 < result.0) }
         ensures read { ReadsOne self.old.limits (self.old.bytes.items ++ take result.0 piece.now) result.1 self.new.bytes.items }
+        ensures memory { result.1 ≡ Err Memory → RanOut self.old.limits self.new.bytes.items (drop_front result.0 piece.now) }
         ensures awaits { IfOk result.1 (λ _. AwaitsMore self.new.limits self.new.bytes.items) }
         ensures limits { self.new.limits ≡ self.old.limits }
     {
         let length = self.bytes.len();
         let missing = size - (length - start);
         let count = piece.len().min(missing);
-        if self.bytes.extend_from_slice(&piece[..count]).is_err() {
-            return (0, Err(ReadFault::Memory));
-        }
+        self.bytes.extend_from_slice(&piece[..count]).unwrap();
         if count < missing {
             return (count, Ok(None));
         }
@@ -201,6 +231,7 @@ impl FrameInput {
                 header_line(&bytes[line..]).err()
             }
             Place::Content(_, _) => Some(ReadFault::ShortBody),
+            Place::Unreserved(_) => Some(ReadFault::ShortBody),
             Place::Fault(fault) => Some(fault),
         }
     }
@@ -230,6 +261,7 @@ fn place_in_header(
     requires line { HasNoFeed (drop_front line bytes.now) ⊎ IsLine (drop_front line bytes.now) }
     requires bound { (most : ℕ) → limits.header ≡ Some most → length bytes.now ≤ most + 1 }
     ensures place { IfOk result (IsPlaceOf limits bytes.now) }
+    ensures unreserved { IfOk result (λ place. (start size : ℕ) → place ≢ Content start size) }
     ensures fault { IfErr result (IsFaultOf limits bytes.now) }
 {
     if is_above(limits.header, bytes.len()) {
@@ -246,7 +278,7 @@ fn place_in_header(
             None => Err(ReadFault::NoLength),
             Some(size) if size > limits.content => Err(ReadFault::TooLong),
             Some(0) => Err(ReadFault::NoJson),
-            Some(size) => Ok(Place::Content(bytes.len(), size as usize)),
+            Some(size) => Ok(Place::Unreserved(size as usize)),
         },
         Err(fault) => Err(fault),
     }

@@ -1,6 +1,6 @@
 use Rattle.std.proofs.Common.{refl, sym, ap, subst, ◌∙◌, inl, inr, ℕ, List, ◌++◌, ◌<◌, [], take, length, Option}
 use Rattle.std.proofs.Common.{append-nil}
-use Rattle.std.proofs.Common.{Result, Ok}
+use Rattle.std.proofs.Common.{◌≡◌, Result, Ok, Err, drop}
 use Rattle.std.proofs.Common.{IfOk}
 use Rattle.lsp_session.specs.Incoming.{incoming_view}
 use Rattle.lsp_message.specs.declared.frame.ReadFault.{ReadFault}
@@ -8,6 +8,8 @@ use Rattle.lsp_message.specs.declared.frame.limits.Limits.{Limits}
 use Rattle.lsp_session.specs.declared.loops.incoming.Incoming.{Incoming}
 use Rattle.lsp_session.proofs.ByteHistory.{goes_on, goes_kept, goes_message, goes_same, goes_still}
 use Rattle.lsp_session.proofs.MessagesEnd.{ends_at_frame, ends_otherwise, known_open, knows_still}
+use Rattle.lsp_message.specs.declared.frame.ReadFault.TheVariants.{Memory}
+use Rattle.lsp_session.specs.FramePlace.{RanOut}
 use Rattle.lsp_session.proofs.Pausing.{no_pause, pauses_at_frame}
 use Rattle.lsp_session.proofs.Served.{served_after}
 use Rattle.lsp_session.specs.ByteSession.{AwaitsMore, BeginsWithFault, ReadsOne}
@@ -159,3 +161,10 @@ returns-in-Ok-None-clause-paused g c = no_pause (record c.args.self.now { input 
 
 pub returns-in-Err-clause-paused : goal.returns-in-Err-clause-paused
 returns-in-Err-clause-paused g c = c.fail.ensures.paused
+
+pub returns-in-Err-clause-memory : goal.returns-in-Err-clause-memory
+returns-in-Err-clause-memory g c = λ known is.
+    let start = c.args.self.now in
+    let same : c.in-Err.fault ≡ Memory = cc (c.fail.ensures.ends, is) in
+    subst (λ (l : List ℕ). RanOut start.input.limits l (drop c.receive-count.result.0 c.args.bytes.now))
+    (sym c.fail.ensures.unread) (c.receive-count.ensures.memory (c.in-Err.is ∙ ap Err same))

@@ -38,3 +38,10 @@ pub returns-in-Fault : goal.returns-in-Fault
 returns-in-Fault c =
     let self = c.args.self.now in
     end_at self.limits self.bytes.items c.in-Fault.fault (self.fault c.in-Fault.fault c.in-Fault.is)
+
+pub returns-in-Unreserved : goal.returns-in-Unreserved
+returns-in-Unreserved c =
+    let self = c.args.self.now in
+    let text = self.bytes.items in
+    end_in_content self.limits text (length text) c.in-Unreserved.field-0 (self.unreserved c.in-Unreserved.field-0
+    c.in-Unreserved.is)

@@ -1,5 +1,5 @@
-use Rattle.std.proofs.Common.{◌≡◌, ◌≢◌, refl, sym, ap, subst, ◌∙◌, ◌++◌, ◌+◌, ◌-◌, ◌<◌, arith, true≢false, List, []}
-use Rattle.std.proofs.Common.{ℕ, drop, take, length}
+use Rattle.std.proofs.Common.{◌≡◌, ◌≢◌, refl, sym, ap, subst, ◌∙◌, ◌++◌, ◌+◌, ◌-◌, ◌<◌, arith, true≢false, inr, List}
+use Rattle.std.proofs.Common.{[], ℕ, drop, take, length}
 use Rattle.std.proofs.Common.{append-nil}
 use Rattle.std.proofs.Common.{length-append, length-take-le, None, Ok, Err}
 use Rattle.lsp_message.specs.Frame.{body_means}
@@ -9,21 +9,20 @@ use Rattle.lsp_message.specs.declared.frame.ReadFault.TheVariants.{Memory}
 use Rattle.lsp_session.specs.ByteSession.{AwaitsMore, BeginsWithFault, IsFrameRead}
 use Rattle.lsp_session.specs.FramePlace.{InContent, InHeader, IsFaultOf, IsPlaceOf}
 use Rattle.lsp_session.specs.declared.loops.frame_input.Place.TheVariants.{Header, Content}
-use Rattle.lsp_session.proofs.FramePlaces.{added, at_no_fault, at_start, awaits_at, begins_with, fault_content}
-use Rattle.lsp_session.proofs.FramePlaces.{fault_fault}
+use Rattle.lsp_session.proofs.FramePlaces.{at_no_fault, at_start, awaits_at, begins_with, fault_content}
+use Rattle.lsp_session.proofs.FramePlaces.{fault_fault, fault_unreserved, in_unreserved}
 use Rattle.lsp_session.proofs.FramePlaces.{fault_header, in_content, in_header, longer, read_fault, read_message}
-use Rattle.lsp_session.proofs.FramePlaces.{kept_whole, memory_ran_out, put_back, tail_of}
+use Rattle.lsp_session.proofs.FramePlaces.{put_back, tail_of}
 use Rattle.lsp_session.proofs.loops.frame_input.FrameInput.receive_content.Goals as goal
 
-pub invariant_of-self-then-count-missing : goal.invariant_of-self-then-count-missing
-invariant_of-self-then-count-missing c =
+pub invariant_of-self : goal.invariant_of-self
+invariant_of-self c =
     let self = c.args.self.now in
     let old = self.bytes.items in
     let new = c.extend_from_slice.new.self.items in
     let more = take c.min-count.result c.args.piece.now in
     let here = self.content c.args.start c.args.size c.requires.here in
-    let now = added c.extend_from_slice.result c.is_err.result old more new c.is_err.ensures.value c.if-is_err.false
-    c.extend_from_slice.ensures.items in
+    let now = rw c.unwrap.ensures at c.extend_from_slice.ensures.items in
     let grown = ap length now ∙ length-append old more ∙ ap (λ n. length old + n) (length-take-le c.min-count.result
     c.args.piece.now (omega (arith, c.min-count.ensures))) in
     let short : length new < c.args.start + c.args.size = omega (
@@ -40,6 +39,8 @@ invariant_of-self-then-count-missing c =
     record {
       header = in_header self.limits new self.place place;
       content = in_content self.limits new self.place place;
+      reserved = λ start size is. omega (arith, self.reserved start size is, c.extend_from_slice.ensures.capacity);
+      unreserved = in_unreserved self.limits new self.place place;
       fault = at_no_fault self.limits new self.place place;
     }
 
@@ -50,8 +51,7 @@ returns-then-count-missing-clause-awaits c =
     let new = c.extend_from_slice.new.self.items in
     let more = take c.min-count.result c.args.piece.now in
     let here = self.content c.args.start c.args.size c.requires.here in
-    let now = added c.extend_from_slice.result c.is_err.result old more new c.is_err.ensures.value c.if-is_err.false
-    c.extend_from_slice.ensures.items in
+    let now = rw c.unwrap.ensures at c.extend_from_slice.ensures.items in
     let grown = ap length now ∙ length-append old more ∙ ap (λ n. length old + n) (length-take-le c.min-count.result
     c.args.piece.now (omega (arith, c.min-count.ensures))) in
     let short : length new < c.args.start + c.args.size = omega (
@@ -74,6 +74,8 @@ invariant_of-self-in-Ok c =
     record {
       header = in_header limits none (Header 0 None) place;
       content = in_content limits none (Header 0 None) place;
+      reserved = λ start size is. absurd (cc (is));
+      unreserved = in_unreserved limits none (Header 0 None) place;
       fault = at_no_fault limits none (Header 0 None) place;
     }
 
@@ -88,8 +90,7 @@ returns-in-Ok-clause-read c =
     let new = c.extend_from_slice.new.self.items in
     let more = take c.min-count.result c.args.piece.now in
     let here = self.content c.args.start c.args.size c.requires.here in
-    let now = added c.extend_from_slice.result c.is_err.result old more new c.is_err.ensures.value c.if-is_err.false
-    c.extend_from_slice.ensures.items in
+    let now = rw c.unwrap.ensures at c.extend_from_slice.ensures.items in
     let grown = ap length now ∙ length-append old more ∙ ap (λ n. length old + n) (length-take-le c.min-count.result
     c.args.piece.now (omega (arith, c.min-count.ensures))) in
     let all : length new ≡ c.args.start + c.args.size = omega (
@@ -115,12 +116,18 @@ invariant_of-self-in-Err c =
     let limits = self.limits in
     let old = self.bytes.items in
     let more = take c.min-count.result c.args.piece.now in
-    let now = added c.extend_from_slice.result c.is_err.result old more c.extend_from_slice.new.self.items
-    c.is_err.ensures.value c.if-is_err.false c.extend_from_slice.ensures.items in
+    let now = rw c.unwrap.ensures at c.extend_from_slice.ensures.items in
     let same = put_back old more _ _ _ now (omega (arith, c.len-length.ensures)) c.truncate.ensures.items in
     record {
       header = λ line given is. subst (λ l. InHeader limits l line given) (sym same) (self.header line given is);
       content = λ start size is. subst (λ l. InContent limits l start size) (sym same) (self.content start size is);
+      reserved = λ start size is. omega (
+        arith,
+        self.reserved start size is,
+        c.extend_from_slice.ensures.capacity,
+        c.truncate.ensures.capacity,
+      );
+      unreserved = λ size is. subst (λ l. InContent limits l (length l) size) (sym same) (self.unreserved size is);
       fault = λ kind is. subst (λ l. IsFaultOf limits l kind) (sym same) (self.fault kind is);
     }
 
@@ -129,22 +136,12 @@ returns-in-Err-clause-read c =
     let self = c.args.self.now in
     let old = self.bytes.items in
     let more = take c.min-count.result c.args.piece.now in
-    let now = added c.extend_from_slice.result c.is_err.result old more c.extend_from_slice.new.self.items
-    c.is_err.ensures.value c.if-is_err.false c.extend_from_slice.ensures.items in (
+    let now = rw c.unwrap.ensures at c.extend_from_slice.ensures.items in (
       put_back old more _ _ _ now (omega (arith, c.len-length.ensures)) c.truncate.ensures.items ∙ sym (append-nil old),
       subst (BeginsWithFault self.limits (old ++ [])) (sym (c.if-is_memory.ensures.memory refl))
           (subst (AwaitsMore self.limits) (sym (append-nil old)) (awaits_at self.limits old
           (Content c.args.start c.args.size) (self.content c.args.start c.args.size c.requires.here))),
     )
-
-pub returns-then-is_err-clause-read : goal.returns-then-is_err-clause-read
-returns-then-is_err-clause-read c =
-    let self = c.args.self.now in
-    let old = self.bytes.items in
-    let here = self.content c.args.start c.args.size c.requires.here in
-    let kept = kept_whole c.extend_from_slice.result c.is_err.result old (take c.min-count.result c.args.piece.now)
-    c.extend_from_slice.new.self.items c.is_err.ensures.value c.if-is_err.true c.extend_from_slice.ensures.items in
-    memory_ran_out self.limits old c.extend_from_slice.new.self.items (Content c.args.start c.args.size) here kept
 
 pub invariant_of-self-in-Err-2 : goal.invariant_of-self-in-Err-2
 invariant_of-self-in-Err-2 c =
@@ -154,8 +151,7 @@ invariant_of-self-in-Err-2 c =
     let more = take c.min-count.result c.args.piece.now in
     let fault = c.in-Err.fault in
     let here = self.content c.args.start c.args.size c.requires.here in
-    let now = added c.extend_from_slice.result c.is_err.result old more new c.is_err.ensures.value c.if-is_err.false
-    c.extend_from_slice.ensures.items in
+    let now = rw c.unwrap.ensures at c.extend_from_slice.ensures.items in
     let grown = ap length now ∙ length-append old more ∙ ap (λ n. length old + n) (length-take-le c.min-count.result
     c.args.piece.now (omega (arith, c.min-count.ensures))) in
     let all : length new ≡ c.args.start + c.args.size = omega (
@@ -175,6 +171,8 @@ invariant_of-self-in-Err-2 c =
     record {
       header = fault_header self.limits new fault;
       content = fault_content self.limits new fault;
+      reserved = λ start size is. absurd (cc (is));
+      unreserved = fault_unreserved self.limits new fault;
       fault = fault_fault self.limits new fault begins;
     }
 
@@ -186,8 +184,7 @@ returns-in-Err-2-clause-read c =
     let more = take c.min-count.result c.args.piece.now in
     let fault = c.in-Err.fault in
     let here = self.content c.args.start c.args.size c.requires.here in
-    let now = added c.extend_from_slice.result c.is_err.result old more new c.is_err.ensures.value c.if-is_err.false
-    c.extend_from_slice.ensures.items in
+    let now = rw c.unwrap.ensures at c.extend_from_slice.ensures.items in
     let grown = ap length now ∙ length-append old more ∙ ap (λ n. length old + n) (length-take-le c.min-count.result
     c.args.piece.now (omega (arith, c.min-count.ensures))) in
     let all : length new ≡ c.args.start + c.args.size = omega (
@@ -205,3 +202,18 @@ returns-in-Err-2-clause-read c =
     let begins = read_fault self.limits old more new c.args.start c.args.size here now all incoming_view fault other
     (subst (λ (l : List ℕ). Decodes incoming_view (Err fault) (body_means l)) part c.in-Err.ensures) in
     (now, subst (λ (l : List ℕ). BeginsWithFault self.limits l fault) now (begins_with self.limits new fault begins))
+
+pub returns-in-Err-clause-memory : goal.returns-in-Err-clause-memory
+returns-in-Err-clause-memory c = λ is.
+    let self = c.args.self.now in
+    let old = self.bytes.items in
+    let more = take c.min-count.result c.args.piece.now in
+    let here = self.content c.args.start c.args.size c.requires.here in
+    let now = rw c.unwrap.ensures at c.extend_from_slice.ensures.items in
+    let same = put_back old more _ _ _ now (omega (arith, c.len-length.ensures)) c.truncate.ensures.items in
+    inr (inr (
+      c.args.start,
+      c.args.size,
+      subst (λ l. InContent self.limits l c.args.start c.args.size) (sym same) here,
+      omega (arith, here.begun, ap length same, c.len-length.ensures, c.min-count.ensures, c.if-count-missing.false),
+    ))
