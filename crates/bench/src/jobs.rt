@@ -5,8 +5,8 @@ ghost use Rattle.lsp_threads.specs.Threads.{ThreadsGiveOver};
 ghost use Rattle.bench.specs.Echo.{EchoesAtWakes};
 
 use crate::Host;
+use crate::session::ended;
 use crate::speaking::Speaking;
-use crate::threads::ended;
 use lsp_jobs::laws::{requests_are_answered_by_their_jobs, session_with_jobs_keeps_laws};
 use lsp_jobs::{
     AnsweredBy, Interrupted, Job, JobContext, JobOptions, JobResult, JobServer, NoKeyedJobs,
@@ -14,7 +14,7 @@ use lsp_jobs::{
 };
 use lsp_server::policies::EndOnBadContent;
 use lsp_server::transports::StandardOutput;
-use lsp_server::{Request, StartFault, Threaded};
+use lsp_server::{Request, StartFault, ThreadsOutcome};
 use serde_json::Value;
 use std::alloc::{AllocError, Global};
 use std::io::{BufRead, Write};
@@ -90,7 +90,7 @@ fn echo_with_jobs<T, R, W>(
     reader: R,
     writer: W,
     workers: usize,
-) -> Result<Threaded<W>, StartFault>
+) -> Result<ThreadsOutcome<W>, StartFault>
 where
     T: Threads + Wait + Clock + Copy + Drop + Send + 'static,
     R: BufRead + Drop + Send + 'static,
@@ -124,5 +124,6 @@ where
     T: Host,
     R: BufRead + Drop + Send + 'static,
 {
-    ended(echo_with_jobs(rt, alloc, reader, StandardOutput::new(*rt), workers))
+    let done = echo_with_jobs(rt, alloc, reader, StandardOutput::new(*rt), workers)?;
+    ended(done.answer)
 }

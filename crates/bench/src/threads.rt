@@ -6,8 +6,8 @@ use anyhow::{Error, Result};
 use lsp_server::policies::EndOnBadContent;
 use lsp_server::transports::StandardOutput;
 use lsp_server::{
-    FrameOutbox, ReadEnd, ServerApplication, StartFault, ThreadOptions, Threaded, pump, read_loop,
-    run_in_threads, run_threads,
+    FrameOutbox, ReadEnd, ServerApplication, ThreadOptions, pump, read_loop, run_in_threads,
+    run_threads,
 };
 use serde_json::{Map, Value};
 use std::alloc::Global;
@@ -49,7 +49,7 @@ where
         &mut echo,
     );
     drop(echo);
-    ended(done)
+    session::ended(done?.answer)
 }
 
 /// Runs the same with a `Server`.
@@ -72,13 +72,5 @@ where
         &mut EndOnBadContent,
         ThreadOptions::new(),
     );
-    ended(done)
-}
-
-/// Returns how a session in threads ended.
-pub fn ended<W: Drop>(done: Result<Threaded<W>, StartFault>) -> Result<()> {
-    match done {
-        Ok(Threaded { answer, .. }) => session::ended(answer),
-        Err(fault) => Err(Error::from(fault)),
-    }
+    session::ended(done?.answer)
 }

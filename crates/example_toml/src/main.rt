@@ -25,7 +25,7 @@ mod work;
 use anyhow::{Result, bail};
 use lsp_server::clients::{ClientOptions, serve_clients};
 use lsp_server::policies::SkipAndFlag;
-use lsp_server::{SessionEnd, StartFault, Threaded};
+use lsp_server::{SessionEnd, StartFault, ThreadsOutcome};
 use server::TomlServer;
 use sessions::{InlineServer, serve, serve_in_threads, serve_inline};
 use std::alloc::Global;
@@ -71,7 +71,9 @@ fn main(rt: HostRuntime) -> Result<()> {
 }
 
 /// How a session in threads ended.
-fn end_of<S: Drop, W: Drop>(session: (S, Result<Threaded<W>, StartFault>)) -> Result<SessionEnd> {
+fn end_of<S: Drop, W: Drop>(
+    session: (S, Result<ThreadsOutcome<W>, StartFault>),
+) -> Result<SessionEnd> {
     let (_server, done) = session;
     Ok(done?.answer?)
 }

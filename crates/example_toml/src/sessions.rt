@@ -21,7 +21,7 @@ use lsp_server::policies::{BadContentPolicy, SkipAndFlag};
 use lsp_server::transports::ClientStreams;
 use lsp_server::{
     Server, ServerApplication, SessionEnd, SessionFault, StartFault, StreamTransport,
-    ThreadOptions, Threaded, run_in_threads,
+    ThreadOptions, ThreadsOutcome, run_in_threads,
 };
 use std::alloc::Global;
 use std::io::{BufRead, Write};
@@ -52,7 +52,7 @@ pub fn serve<T, R, W>(
     client: ClientStreams<R, W>,
     server: TomlServer,
     skipped: &mut SkipAndFlag,
-) -> (TomlServer, Result<Threaded<W>, StartFault>)
+) -> (TomlServer, Result<ThreadsOutcome<W>, StartFault>)
 where
     T: Threads + Wait + Clock + Copy + Drop + Send + 'static,
     R: BufRead + Drop + Send + 'static,
@@ -136,7 +136,7 @@ pub fn serve_in_threads<T, R, W>(
     client: ClientStreams<R, W>,
     server: InlineServer,
     skipped: &mut SkipAndFlag,
-) -> (InlineServer, Result<Threaded<W>, StartFault>)
+) -> (InlineServer, Result<ThreadsOutcome<W>, StartFault>)
 where
     T: Threads + Wait + Copy + Drop + Send + 'static,
     R: BufRead + Drop + Send + 'static,

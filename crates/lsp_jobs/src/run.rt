@@ -15,7 +15,7 @@ use lsp_acts::ServerApplication;
 use lsp_relay::relay;
 use lsp_session::BadContentPolicy;
 use lsp_threads::{
-    Contents, ContentsPlan, StartFault, ThreadOptions, Threaded, run_in_threads_over,
+    Contents, ContentsPlan, StartFault, ThreadOptions, ThreadsOutcome, run_in_threads_over,
 };
 use std::alloc::Global;
 use std::io::{BufRead, Write};
@@ -88,7 +88,7 @@ pub fn run_jobs<T, R, W, S, J, L>(
     server: S,
     policy: &mut L,
     options: JobOptions,
-) -> (S, Result<Threaded<W>, StartFault>)
+) -> (S, Result<ThreadsOutcome<W>, StartFault>)
 where
     T: Threads + Wait + Clock + Copy + Drop + Send + 'static,
     R: BufRead + Drop + Send + 'static,

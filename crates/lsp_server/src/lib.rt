@@ -57,7 +57,7 @@ pub use lsp_session::{
     write_loop,
 };
 pub use lsp_threads::{
-    PumpFault, StartFault, ThreadOptions, Threaded, pump, pump_within, run_in_threads, run_threads,
-    run_threads_within,
+    PumpFault, StartFault, ThreadOptions, Threaded, ThreadsOutcome, pump, pump_within,
+    run_in_threads, run_threads, run_threads_within,
 };
 pub use relays::{Parcel, RelayRx, RelayTx, relay};

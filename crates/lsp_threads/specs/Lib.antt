@@ -7,5 +7,6 @@ pub mod Pump
 pub mod Replies
 pub mod ThreadEnds
 pub mod Threads
+pub mod Traces
 pub mod Writes
 pub use Rattle.lsp_relay.specs.Relay

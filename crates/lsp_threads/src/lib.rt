@@ -26,8 +26,8 @@ mod write_trace;
 pub use content_batch::{Contents, ContentsPlan, ContentsRx, ContentsTx};
 pub use pumping::{PumpFault, PumpOutcome, pump, pump_traced, pump_with, pump_within};
 pub use run::{
-    DEFAULT_READ_AHEAD_BYTES, ThreadOptions, Threaded, UNWRITTEN_BYTES, run_in_threads,
-    run_in_threads_over, run_threads, run_threads_within,
+    DEFAULT_READ_AHEAD_BYTES, ThreadOptions, Threaded, ThreadsOutcome, UNWRITTEN_BYTES,
+    run_in_threads, run_in_threads_over, run_threads, run_threads_within,
 };
 pub use workers::StartFault;
 pub use write_trace::WriteTrace;

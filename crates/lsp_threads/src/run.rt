@@ -5,10 +5,11 @@ ghost use Rattle.lsp_message.specs.Frame.{no_limit, of_content};
 ghost use Rattle.lsp_session.specs.HandlerSession.{of_handler};
 ghost use Rattle.lsp_session.specs.Session.{SessionOut};
 ghost use Rattle.lsp_session.specs.SessionLaws.{Both};
-ghost use Rattle.lsp_threads.specs.Order.{TellsInOrder, ThreadsGiveInOrder};
+ghost use Rattle.lsp_threads.specs.Order.{TellsInOrder};
 ghost use Rattle.lsp_threads.specs.Passing.{GivenTo, OfTaken, TakenFrom, noted};
 ghost use Rattle.lsp_threads.specs.Threads.{FlushesInThreads, ReportsReader, ReportsWriter, ThreadsGive, ThreadsTell};
 ghost use Rattle.lsp_threads.specs.Threads.{ThreadsTellOver};
+ghost use Rattle.lsp_threads.specs.Traces.{HasTraces};
 
 use crate::content_batch::{Contents, ContentsPlan, ContentsRx, ContentsTx};
 use crate::serving::{serve_between, start_both};
@@ -26,10 +27,20 @@ use std::io::{BufRead, Write};
 use std::sync::Wait;
 use std::thread::{Builder, Threads};
 
-/// The result of a session in threads. Only clauses see its traces of bytes.
+/// The result of `run_threads` and `run_threads_within`.
 #[derive(Drop)]
 #[derive_where(Debug; W)]
 pub struct Threaded<W> {
+    /// The writer that you passed in.
+    pub writer: W,
+    /// How the session ended.
+    pub answer: Result<SessionEnd, SessionFault>,
+}
+
+/// The result of a session in threads. Only clauses see its traces of bytes.
+#[derive(Drop)]
+#[derive_where(Debug; W)]
+pub struct ThreadsOutcome<W> {
     /// The writer that you passed in.
     pub writer: W,
     /// The bytes that were taken from the reader, up to the end of the last message that the session took. Bytes that
@@ -110,13 +121,12 @@ impl ThreadOptions {
 /// - After a failed write nothing more is written, and the session goes on until it has something to send. So the
 ///   handler may get messages that `session` would not have read. While it has nothing to send, it waits for the
 ///   client.
-/// - The clause `told` holds for every reader and writer, including standard input and a socket. It says what `session`
-///   says, for each text that begins with the bytes that were taken, and for a writer that began empty. If the reader
-///   showed its end, there is only one such text. `passed` says that these are the bytes that were read and written, if
-///   they are known. `order` adds that no frame is given before the message that it answers was taken, and `flushed`
-///   that all that was given was flushed, unless a write or a flush failed.
-/// - `reader` and `writer` say that read fault 1 and write fault 1 are reported only if the reader or the writer failed,
-///   with the kind of its error. After 2^64 - 1 bytes or messages the session may give up, with the kind `Other`.
+/// - The clause `traced` says of the bytes that were taken and given: no frame was given before the message that it
+///   answers was taken. All that was given was flushed, unless a write or a flush failed. Read fault 1 and write fault 1
+///   are reported only if the reader or the writer failed, with the kind of its error. After 2^64 - 1 bytes or messages
+///   the session may give up, with the kind `Other`.
+/// - If the bytes of the reader or the writer are not known, as those of standard input or a socket, `traced` does not
+///   name them. `run_in_threads` does: its result has the traces.
 pub fn run_threads<T, R, W, H>(
     rt: &T,
     alloc: Global,
@@ -131,26 +141,13 @@ where
     W: Write + Drop + Send + 'static,
     H: Handler,
     ensures unstarted { OnErr result (handler.new ≡ handler.old) }
-    ensures told { IfOk result (λ done. OfTaken done.taken.parts (λ text.
-        ThreadsGive no_limit
-        (SessionOut (of_handler H.answer_post H.note_post (view capabilities)) handler.old handler.new)
-        text (Some []) (noted done.given) done.answer)) }
-    ensures order { IfOk result (λ done. OfTaken done.taken.parts (λ text.
-        ThreadsGiveInOrder no_limit (R.remaining reader)
-        (SessionOut (of_handler H.answer_post H.note_post (view capabilities)) handler.old handler.new)
-        text done.order done.given.parts done.answer)) }
-    ensures passed { IfOk result (λ done. TakenFrom (R.remaining reader) done.taken.parts
-        × GivenTo (W.contents writer) done.given.parts (W.contents done.writer)) }
-    ensures flushed { IfOk result (λ done. FlushesInThreads done.answer done.given.parts) }
-    ensures reader { IfOk result (λ done. OfTaken done.taken.parts (λ text.
-        ThreadsGive no_limit
-        (Both (SessionOut (of_handler H.answer_post H.note_post (view capabilities)) handler.old handler.new)
-        (ReportsReader done.answer done.taken)) text (Some []) (noted done.given) done.answer)) }
-    ensures writer { IfOk result (λ done. ReportsWriter done.answer done.given) }
     ensures session { IfSome (R.remaining reader) (λ text. IfOk result (λ done.
         ThreadsGive no_limit
         (SessionOut (of_handler H.answer_post H.note_post (view capabilities)) handler.old handler.new)
         text (W.contents writer) (W.contents done.writer) done.answer)) }
+    ensures traced { IfOk result (λ done. HasTraces no_limit
+        (SessionOut (of_handler H.answer_post H.note_post (view capabilities)) handler.old handler.new)
+        (R.remaining reader) (W.contents writer) (W.contents done.writer) done.answer) }
 {
     run_threads_within(rt, alloc, reader, writer, capabilities, handler, u64::MAX)
 }
@@ -173,26 +170,13 @@ where
     W: Write + Drop + Send + 'static,
     H: Handler,
     ensures unstarted { OnErr result (handler.new ≡ handler.old) }
-    ensures told { IfOk result (λ done. OfTaken done.taken.parts (λ text.
-        ThreadsGive (of_content limit)
-        (SessionOut (of_handler H.answer_post H.note_post (view capabilities)) handler.old handler.new)
-        text (Some []) (noted done.given) done.answer)) }
-    ensures order { IfOk result (λ done. OfTaken done.taken.parts (λ text.
-        ThreadsGiveInOrder (of_content limit) (R.remaining reader)
-        (SessionOut (of_handler H.answer_post H.note_post (view capabilities)) handler.old handler.new)
-        text done.order done.given.parts done.answer)) }
-    ensures passed { IfOk result (λ done. TakenFrom (R.remaining reader) done.taken.parts
-        × GivenTo (W.contents writer) done.given.parts (W.contents done.writer)) }
-    ensures flushed { IfOk result (λ done. FlushesInThreads done.answer done.given.parts) }
-    ensures reader { IfOk result (λ done. OfTaken done.taken.parts (λ text.
-        ThreadsGive (of_content limit)
-        (Both (SessionOut (of_handler H.answer_post H.note_post (view capabilities)) handler.old handler.new)
-        (ReportsReader done.answer done.taken)) text (Some []) (noted done.given) done.answer)) }
-    ensures writer { IfOk result (λ done. ReportsWriter done.answer done.given) }
     ensures session { IfSome (R.remaining reader) (λ text. IfOk result (λ done.
         ThreadsGive (of_content limit)
         (SessionOut (of_handler H.answer_post H.note_post (view capabilities)) handler.old handler.new)
         text (W.contents writer) (W.contents done.writer) done.answer)) }
+    ensures traced { IfOk result (λ done. HasTraces (of_content limit)
+        (SessionOut (of_handler H.answer_post H.note_post (view capabilities)) handler.old handler.new)
+        (R.remaining reader) (W.contents writer) (W.contents done.writer) done.answer) }
 {
     let mut capabilities = capabilities;
     let service = HandlerService::new(alloc, &mut capabilities, handler);
@@ -202,7 +186,7 @@ where
         header: None,
         content: limit,
     };
-    run_in_threads(
+    let ran = run_in_threads(
         rt,
         alloc,
         reader,
@@ -210,7 +194,14 @@ where
         &mut application,
         &mut EndOnBadContent,
         options,
-    )
+    );
+    match ran {
+        Ok(done) => {
+            let ThreadsOutcome { writer, answer, .. } = done;
+            Ok(Threaded { writer, answer })
+        }
+        Err(fault) => Err(fault),
+    }
 }
 
 /// Runs a session of an application (LSP 3.17, "Server lifecycle") with a reading thread, a writing thread and the
@@ -237,7 +228,7 @@ pub fn run_in_threads<T, R, W, A, L>(
     application: &mut A,
     policy: &mut L,
     options: ThreadOptions,
-) -> Result<Threaded<W>, StartFault>
+) -> Result<ThreadsOutcome<W>, StartFault>
 where
     T: Threads + Wait + Copy + Drop + Send + 'static,
     R: BufRead + Drop + Send + 'static,
@@ -296,7 +287,7 @@ pub fn run_in_threads_over<T, R, W, A, L>(
     application: &mut A,
     policy: &mut L,
     options: ThreadOptions,
-) -> Result<Threaded<W>, StartFault>
+) -> Result<ThreadsOutcome<W>, StartFault>
 where
     T: Threads + Wait + Copy + Drop + Send + 'static,
     R: BufRead + Drop + Send + 'static,

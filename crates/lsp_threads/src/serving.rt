@@ -14,7 +14,7 @@ use crate::content_parts::ContentParts;
 use crate::frame_text::FrameText;
 use crate::parcels::deliver;
 use crate::reply_outbox::{ReplyOutbox, reply_fault};
-use crate::run::{ThreadOptions, Threaded};
+use crate::run::{ThreadOptions, ThreadsOutcome};
 use crate::thread_ends::{ThreadEnds, serve_ends};
 use crate::watched_writer::{WatchedWriter, WriteFaults, write_faults};
 use crate::workers::{ROOM, Reader, StartFault, Writer, start_reader, start_writer};
@@ -178,7 +178,7 @@ pub(crate) fn serve_between<T, R, W, A, L>(
     workers: Workers<R, W>,
     application: &mut A,
     policy: &mut L,
-) -> Threaded<W>
+) -> ThreadsOutcome<W>
 where
     T: Threads + Wait + Copy + Drop,
     R: BufRead + Drop,
@@ -228,7 +228,7 @@ where
     settle_all(rt, replies_rx, replies);
     let fault = reply_fault(unwritten, failed);
     let answer = session_answer(served, session_end(ended, drained, read), fault);
-    Threaded {
+    ThreadsOutcome {
         writer,
         taken,
         given,

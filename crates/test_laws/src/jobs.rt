@@ -3,7 +3,7 @@ ghost use Rattle.std.specs.Prelude.{◌≡◌, ℕ, List, Ok, Some, true};
 ghost use Rattle.lsp_jobs.specs.JobLaw.{LawfulJobSession};
 ghost use Rattle.lsp_session.specs.Session.{Exchange, SessionAnswer, Stop};
 ghost use Rattle.lsp_threads.specs.Threads.{ThreadsGiveOver};
-ghost use Rattle.lsp_threads.specs.declared.run.Threaded.{Threaded as Done};
+ghost use Rattle.lsp_threads.specs.declared.run.ThreadsOutcome.{ThreadsOutcome as Done};
 ghost use Rattle.test_laws.specs.Turns.{HasTurns};
 
 use lsp_acts::Server;
@@ -13,7 +13,7 @@ use lsp_jobs::laws::{
 };
 use lsp_jobs::{Job, JobOptions, JobServer, StatesJobs, run_jobs};
 use lsp_session::EndOnBadContent;
-use lsp_threads::{StartFault, Threaded};
+use lsp_threads::{StartFault, ThreadsOutcome};
 use std::alloc::Global;
 use std::io::{BufRead, Write};
 use std::sync::Wait;
@@ -29,7 +29,7 @@ pub fn serve_with_jobs<T, R, W, S, J>(
     writer: W,
     server: S,
     options: JobOptions,
-) -> (S, Result<Threaded<W>, StartFault>)
+) -> (S, Result<ThreadsOutcome<W>, StartFault>)
 where
     T: Threads + Wait + Clock + Copy + Drop + Send + 'static,
     R: BufRead + Drop + Send + 'static,

@@ -5,12 +5,12 @@ ghost use Rattle.lsp_message.specs.Frame.{no_limit};
 ghost use Rattle.lsp_session.specs.HandlerSession.{of_handler};
 ghost use Rattle.lsp_session.specs.Session.{SessionOut};
 ghost use Rattle.lsp_threads.specs.Threads.{ThreadsGive};
-ghost use Rattle.lsp_threads.specs.declared.run.Threaded.{Threaded as Done};
+ghost use Rattle.lsp_threads.specs.declared.run.ThreadsOutcome.{ThreadsOutcome as Done};
 
 use crate::sessions::Quiet;
 use lsp_session::{EndOnBadContent, Handler, HandlerApplication};
 use lsp_threads::laws::nothing_is_skipped_in_threads;
-use lsp_threads::{StartFault, ThreadOptions, Threaded, run_in_threads};
+use lsp_threads::{StartFault, ThreadOptions, ThreadsOutcome, run_in_threads};
 use std::alloc::Global;
 use std::io::{BufRead, Write};
 use std::sync::Wait;
@@ -24,7 +24,7 @@ pub fn serve_in_threads<T, R, W>(
     reader: R,
     writer: W,
     application: &mut HandlerApplication<Quiet>,
-) -> Result<Threaded<W>, StartFault>
+) -> Result<ThreadsOutcome<W>, StartFault>
 where
     T: Threads + Wait + Copy + Drop + Send + 'static,
     R: BufRead + Drop + Send + 'static,

@@ -14,8 +14,8 @@ use lsp_server::running::DEFAULT_READ_AHEAD_WEIGHT;
 use lsp_server::{Connection, Limits};
 use lsp_session::{Application, HandlerApplication, SessionEnd, SessionFault, SkipAndCount};
 use lsp_threads::{
-    DEFAULT_READ_AHEAD_BYTES, PumpFault, StartFault, ThreadOptions, Threaded, UNWRITTEN_BYTES,
-    pump_with, run_in_threads,
+    DEFAULT_READ_AHEAD_BYTES, PumpFault, StartFault, ThreadOptions, ThreadsOutcome,
+    UNWRITTEN_BYTES, pump_with, run_in_threads,
 };
 use serde_json::{Map, Value};
 use std::alloc::{AllocError, Global};
@@ -339,7 +339,7 @@ fn run_talker<R, S, W>(
     run: Run,
     talker: Talker,
     listening: &mut Listening,
-) -> (Talker, Result<Threaded<W>, StartFault>)
+) -> (Talker, Result<ThreadsOutcome<W>, StartFault>)
 where
     R: Threads + Wait + Clock + Copy + Drop + Send + 'static,
     S: BufRead + Drop + Send + 'static,
@@ -374,12 +374,12 @@ fn builder(is_refused: bool) -> Builder {
 /// How a session in threads ended, and what it wrote.
 fn threads_answer(
     alloc: Global,
-    ran: Result<Threaded<Sink>, StartFault>,
+    ran: Result<ThreadsOutcome<Sink>, StartFault>,
     run: Run,
     signals: &Arc<Signals>,
 ) -> Result<Attempt, AllocError> {
     match ran {
-        Ok(Threaded { writer, answer, .. }) => {
+        Ok(ThreadsOutcome { writer, answer, .. }) => {
             let end = session_end(alloc, answer)?;
             told(alloc, run, end.as_str(), &writer)
         }

@@ -1,7 +1,7 @@
 use Rattle.std.proofs.Common.{ap, true, Ok, Some, ◌∙◌}
 use Rattle.lsp_message.specs.Frame.{no_limit}
 use Rattle.lsp_threads.proofs.Sessions.{started_as, started_untold}
-use Rattle.lsp_threads.specs.declared.run.Threaded.{Threaded}
+use Rattle.lsp_threads.specs.declared.run.ThreadsOutcome.{ThreadsOutcome}
 use Rattle.bench.proofs.Echoes.{echo_at_wakes}
 use Rattle.bench.proofs.jobs.echo_with_jobs.Goals as goal
 
@@ -12,8 +12,8 @@ returns g c =
     (λ job method params reply found for comes. comes ∙ ap (λ d. Some (Ok d)) for) _ exchanges
     (c.requests_are_answered_by_their_jobs.ensures _ stop exchanges
     (c.session_with_jobs_keeps_laws.ensures.exchanges _ _ exchanges stop answer session).jobs))
-    true no_limit (λ (done : Threaded _). g.W.Write.contents done.writer) (λ (done : Threaded _).
+    true no_limit (λ (done : ThreadsOutcome _). g.W.Write.contents done.writer) (λ (done : ThreadsOutcome _).
     done.answer) _ _ _
     (started_untold true _ no_limit _ _ (λ old fault new heard. heard) _
-    (λ (done : Threaded _). g.W.Write.contents done.writer) (λ (done : Threaded _). done.answer) _ _ _
+    (λ (done : ThreadsOutcome _). g.W.Write.contents done.writer) (λ (done : ThreadsOutcome _). done.answer) _ _ _
     (rw c.new-options.ensures.limits at c.run_jobs-done.ensures.session))

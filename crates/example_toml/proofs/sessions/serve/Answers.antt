@@ -3,7 +3,7 @@ use Rattle.std.proofs.Common.{true}
 use Rattle.lsp_diagnostics.proofs.Crossing.{findings_send}
 use Rattle.lsp_threads.proofs.Sessions.{taken_told_as}
 use Rattle.lsp_threads.specs.Passing.{noted}
-use Rattle.lsp_threads.specs.declared.run.Threaded.{Threaded}
+use Rattle.lsp_threads.specs.declared.run.ThreadsOutcome.{ThreadsOutcome}
 use Rattle.example_toml.proofs.Crossing.{work_send}
 use Rattle.example_toml.proofs.sessions.serve.Goals as goal
 
@@ -17,8 +17,8 @@ returns-clause-told g c =
           c.requires.documents lawful;
       replies = c.searches_are_of_open_texts.ensures _ _ exchanges stop answer c.requires.documents lawful;
     })
-    (λ (done : Threaded _). done.taken.parts) (λ (done : Threaded _). noted done.given)
-    (λ (done : Threaded _). done.answer) _
+    (λ (done : ThreadsOutcome _). done.taken.parts) (λ (done : ThreadsOutcome _). noted done.given)
+    (λ (done : ThreadsOutcome _). done.answer) _
     c.run_jobs.ensures.told
 
 -- The threads may own a job, and what a check finds.

@@ -6,7 +6,7 @@ use Rattle.lsp_threads.proofs.Sessions.{each_told_as, started_told_as, taken_tol
 use Rattle.lsp_threads.specs.Order.{GivesInOrder}
 use Rattle.lsp_threads.specs.Passing.{noted}
 use Rattle.lsp_threads.specs.Threads.{ReportsReader}
-use Rattle.lsp_threads.specs.declared.run.Threaded.{Threaded}
+use Rattle.lsp_threads.specs.declared.run.ThreadsOutcome.{ThreadsOutcome}
 use Rattle.lsp_jobs.proofs.JobSessions.{job_session}
 use Rattle.lsp_jobs.proofs.PendingLemmas.{on_err_then}
 use Rattle.lsp_acts.specs.declared.server_application.ServerApplication.{ServerApplication}
@@ -28,7 +28,7 @@ returns-clause-session g c =
     (ap seen c.new-queued.ensures.server ∙ c.new-pooled.ensures
     ∙ ap (λ t. (c.args.server, t)) c.in-Ok-start_pool.ensures)
     (c.into_parts-server.ensures ∙ ap (λ (p : PooledServer _ _ _ _). p.server) c.into_server.ensures))
-    (λ (done : Threaded _). g.W.Write.contents done.writer) (λ (done : Threaded _). done.answer) _ _ _
+    (λ (done : ThreadsOutcome _). g.W.Write.contents done.writer) (λ (done : ThreadsOutcome _). done.answer) _ _ _
     (rw c.in-Ok-waker.ensures.made at c.run_in_threads_over-done.ensures.session)
 
 pub returns-clause-told : goal.returns-clause-told
@@ -44,8 +44,8 @@ returns-clause-told g c =
     (ap seen c.new-queued.ensures.server ∙ c.new-pooled.ensures
     ∙ ap (λ t. (c.args.server, t)) c.in-Ok-start_pool.ensures)
     (c.into_parts-server.ensures ∙ ap (λ (p : PooledServer _ _ _ _). p.server) c.into_server.ensures))
-    (λ (done : Threaded _). done.taken.parts) (λ (done : Threaded _). noted done.given)
-    (λ (done : Threaded _). done.answer) _ (rw c.in-Ok-waker.ensures.made at
+    (λ (done : ThreadsOutcome _). done.taken.parts) (λ (done : ThreadsOutcome _). noted done.given)
+    (λ (done : ThreadsOutcome _). done.answer) _ (rw c.in-Ok-waker.ensures.made at
     c.run_in_threads_over-done.ensures.told)
 
 pub returns-clause-unstarted : goal.returns-clause-unstarted
@@ -72,11 +72,11 @@ returns-clause-reader g c =
     ∙ ap (λ t. (c.args.server, t)) c.in-Ok-start_pool.ensures)
     (c.into_parts-server.ensures ∙ ap (λ (p : PooledServer _ _ _ _). p.server) c.into_server.ensures) in
     each_told_as true g.L.BadContentPolicy.passes c.args.options.threads.limits c.args.policy.now _
-    (λ (done : Threaded _). Both queued (ReportsReader done.answer done.taken))
-    (λ (done : Threaded _). Both said (ReportsReader done.answer done.taken))
+    (λ (done : ThreadsOutcome _). Both queued (ReportsReader done.answer done.taken))
+    (λ (done : ThreadsOutcome _). Both said (ReportsReader done.answer done.taken))
     (λ done xs stop answer both. (to xs stop answer both.0, both.1))
-    (λ (done : Threaded _). done.taken.parts) (λ (done : Threaded _). noted done.given)
-    (λ (done : Threaded _). done.answer) _ (rw c.in-Ok-waker.ensures.made at c.run_in_threads_over-done.ensures.reader)
+    (λ (done : ThreadsOutcome _). done.taken.parts) (λ (done : ThreadsOutcome _). noted done.given)
+    (λ (done : ThreadsOutcome _). done.answer) _ (rw c.in-Ok-waker.ensures.made at c.run_in_threads_over-done.ensures.reader)
 
 pub returns-clause-order : goal.returns-clause-order
 returns-clause-order g c =
@@ -90,10 +90,10 @@ returns-clause-order g c =
     (ap seen c.new-queued.ensures.server ∙ c.new-pooled.ensures
     ∙ ap (λ t. (c.args.server, t)) c.in-Ok-start_pool.ensures)
     (c.into_parts-server.ensures ∙ ap (λ (p : PooledServer _ _ _ _). p.server) c.into_server.ensures) in
-    let order = λ (done : Threaded _). GivesInOrder true g.L.BadContentPolicy.passes c.args.options.threads.limits
+    let order = λ (done : ThreadsOutcome _). GivesInOrder true g.L.BadContentPolicy.passes c.args.options.threads.limits
     (g.R.Read.remaining c.args.reader) c.args.policy.now done.order done.given.parts in
     each_told_as true g.L.BadContentPolicy.passes c.args.options.threads.limits c.args.policy.now _
-    (λ (done : Threaded _). Both queued (order done)) (λ (done : Threaded _). Both said (order done))
+    (λ (done : ThreadsOutcome _). Both queued (order done)) (λ (done : ThreadsOutcome _). Both said (order done))
     (λ done xs stop answer both. (to xs stop answer both.0, both.1))
-    (λ (done : Threaded _). done.taken.parts) (λ (done : Threaded _). noted done.given)
-    (λ (done : Threaded _). done.answer) _ (rw c.in-Ok-waker.ensures.made at c.run_in_threads_over-done.ensures.order)
+    (λ (done : ThreadsOutcome _). done.taken.parts) (λ (done : ThreadsOutcome _). noted done.given)
+    (λ (done : ThreadsOutcome _). done.answer) _ (rw c.in-Ok-waker.ensures.made at c.run_in_threads_over-done.ensures.order)
