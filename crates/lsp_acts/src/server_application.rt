@@ -19,9 +19,7 @@ use lsp_message::{
     ErrorCode, Message, Notification, Request, RequestId, Response, ResponseError, ResultText,
 };
 use lsp_queue::{RegisterFault, ReqQueue, id_to_cancel};
-use lsp_session::{
-    Application, Output, Service, SessionOutcome, TextOutbox, ToSend, WakingInbox, serve_transport,
-};
+use lsp_session::{Application, Output, Service, ToSend};
 use serde_json::{Map, Value, put};
 use std::alloc::{AllocError, Global};
 use std::mem;
@@ -329,7 +327,7 @@ impl<S: Server> ServerApplication<S, S::PendingData> {
         server
     }
 
-    fn begin(&mut self) -> Result<(), AllocError>
+    fn on_initialized(&mut self) -> Result<(), AllocError>
         ensures { IfOk result (λ _.
             Acts S.ids_exhausted_post (S.initialized_post self.old.server) (queues_of self.old.queues)
             (seen self.new)) }
@@ -471,7 +469,7 @@ impl<S: Server> Service for ServerApplication<S, S::PendingData> {
     }
 
     fn initialized(&mut self) -> Result<Output, AllocError> {
-        self.begin()?;
+        self.on_initialized()?;
         Ok(Output::Several(self.queues.take_sent()))
     }
 
@@ -523,14 +521,9 @@ impl<S: Server> Application for ServerApplication<S, S::PendingData> {
 
     ghost session = { λ old new. ServerSession S.Server old.server new.server };
 
-    /// Starts a session with empty queues. No request of an earlier client belongs to this one.
-    fn run<T: WakingInbox + TextOutbox>(
-        &mut self,
-        alloc: Global,
-        transport: &mut T,
-    ) -> SessionOutcome {
+    /// Empties the queues. No request of an earlier client belongs to the session that follows.
+    fn begin(&mut self) {
         let queues = Queues::new(self.queues.alloc);
         self.queues = queues;
-        serve_transport(alloc, transport, self)
     }
 }

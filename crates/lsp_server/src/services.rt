@@ -1,4 +1,4 @@
-//! Services, one level below `Application`. A service decides about each message of a session itself.
+//! Services. A service decides about each message of a session itself. Each application is a service.
 
 pub use lsp_acts::{Output, Service, serve_service};
-pub use lsp_session::{ServiceApplication, SessionOutcome, StopReason, ToSend, null_response};
+pub use lsp_session::{SessionOutcome, StopReason, ToSend, null_response};

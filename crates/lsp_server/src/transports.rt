@@ -2,5 +2,6 @@
 
 pub use crate::stdio::StandardOutput;
 pub use lsp_session::{
-    Arrival, ClientStreams, TextOutbox, TolerantInbox, Transcript, WakingInbox, serve_transport,
+    Arrival, ClientStreams, TextOutbox, TolerantInbox, Transcript, WakingInbox, serve_application,
+    serve_transport,
 };

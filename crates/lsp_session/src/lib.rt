@@ -17,9 +17,9 @@ pub use lifecycle::{
 };
 pub use loops::{
     Application, BadContentPolicy, ClientStreams, EndOnBadContent, FrameOutbox, Handler,
-    HandlerApplication, HandlerService, Output, ReadEnd, Sendable, Service, ServiceApplication,
-    SessionEnd, SessionFault, SessionOutcome, SkipAndCount, SkipAndFlag, SkipSilently, StopReason,
-    StreamInbox, StreamTransport, ToSend, TolerantInbox, Transcript, WriteEnd, initialize_result,
-    is_bad_content, read_loop, read_loop_within, serve, serve_service, serve_transport, session,
-    session_answer, session_within, write_loop,
+    HandlerApplication, HandlerService, Output, ReadEnd, Sendable, Service, SessionEnd,
+    SessionFault, SessionOutcome, SkipAndCount, SkipAndFlag, SkipSilently, StopReason, StreamInbox,
+    StreamTransport, ToSend, TolerantInbox, Transcript, WriteEnd, initialize_result,
+    is_bad_content, read_loop, read_loop_within, serve, serve_application, serve_service,
+    serve_transport, session, session_answer, session_within, write_loop,
 };

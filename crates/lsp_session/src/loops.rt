@@ -36,7 +36,7 @@ mod transport;
 mod unwoken;
 mod write;
 
-pub use application::{Application, ServiceApplication};
+pub use application::{Application, serve_application};
 pub use bad_content_policy::{BadContentPolicy, EndOnBadContent, SkipAndCount, SkipSilently};
 pub use both_ends::serve_service;
 pub use byte_session::ByteSession;

@@ -20,7 +20,6 @@ use Rattle.lsp_session.proofs.Brought.{Brought, brought_by}
 use Rattle.lsp_session.proofs.Got.{got_by}
 use Rattle.lsp_session.specs.SessionRun.{Runs}
 use Rattle.lsp_session.specs.declared.loops.ReadEnd.{ReadEnd}
-use Rattle.lsp_session.specs.declared.loops.application.ServiceApplication.{ServiceApplication}
 use Rattle.lsp_session.specs.declared.loops.handler.SessionEnd.{SessionEnd}
 use Rattle.lsp_session.specs.declared.loops.handler_service.HandlerService.{HandlerService}
 use Rattle.lsp_session.specs.declared.loops.session_outcome.StopReason.{StopReason}
@@ -203,11 +202,11 @@ module _ (wakeable : Bool) {L : Type 0} (passes : L → ReadFault → L → Type
     started_told P Q to taken given answer_of (Err fault) tells = tt
 
 -- a handler that was lent to a session which did not start is as it was
-pub unstarted_handler : {H T F : Type 0} (old new : ServiceApplication (HandlerService H)) (first last : H)
-    → (new.service.handler.ghost_name ≡ old.service.handler.ghost_name → last ≡ new.service.handler.now)
-    → old.service.handler.now ≡ first → (X : Type 0) (result : Result T F) → OnErr result ((new ≡ old) × X)
+pub unstarted_handler : {H T F : Type 0} (old new : HandlerService H) (first last : H)
+    → (new.handler.ghost_name ≡ old.handler.ghost_name → last ≡ new.handler.now)
+    → old.handler.now ≡ first → (X : Type 0) (result : Result T F) → OnErr result ((new ≡ old) × X)
     → OnErr result (last ≡ first)
 unstarted_handler old new first last same unchanged X (Ok done) kept = tt
 unstarted_handler old new first last same unchanged X (Err fault) kept =
-    same (ap (λ (a : ServiceApplication (HandlerService _)). a.service.handler.ghost_name) kept.0)
-    ∙ ap (λ (a : ServiceApplication (HandlerService _)). a.service.handler.now) kept.0 ∙ unchanged
+    same (ap (λ (s : HandlerService _). s.handler.ghost_name) kept.0)
+    ∙ ap (λ (s : HandlerService _). s.handler.now) kept.0 ∙ unchanged

@@ -18,8 +18,8 @@ use crate::write_trace::WriteTrace;
 use lsp_message::{ByteTrace, Limits};
 use lsp_relay::relay;
 use lsp_session::{
-    Application, BadContentPolicy, EndOnBadContent, Handler, HandlerService, ServiceApplication,
-    SessionEnd, SessionFault,
+    Application, BadContentPolicy, EndOnBadContent, Handler, HandlerService, SessionEnd,
+    SessionFault,
 };
 use serde_json::Value;
 use std::alloc::Global;
@@ -179,8 +179,7 @@ where
         (R.remaining reader) (W.contents writer) (W.contents done.writer) done.answer) }
 {
     let mut capabilities = capabilities;
-    let service = HandlerService::new(alloc, &mut capabilities, handler);
-    let mut application = ServiceApplication { service };
+    let mut service = HandlerService::new(alloc, &mut capabilities, handler);
     let mut options = ThreadOptions::new();
     options.limits = Limits {
         header: None,
@@ -191,7 +190,7 @@ where
         alloc,
         reader,
         writer,
-        &mut application,
+        &mut service,
         &mut EndOnBadContent,
         options,
     );

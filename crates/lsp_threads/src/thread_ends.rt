@@ -17,7 +17,7 @@ use lsp_calls::CallReader;
 use lsp_message::{Message, ReadFault, RequestId, ResultText};
 use lsp_session::{
     Application, Arrival, BadContentPolicy, Event, Inbox, Outbox, ReadEnd, SendFault,
-    SessionOutcome, TextOutbox, WakingInbox, is_bad_content, is_exit,
+    SessionOutcome, TextOutbox, WakingInbox, is_bad_content, is_exit, serve_application,
 };
 use std::alloc::Global;
 use std::sync::Wait;
@@ -271,5 +271,5 @@ pub fn serve_ends<R: Wait + Copy + Drop, L: BadContentPolicy, A: Application>(
         (seen_of ends.new, ends.new.outbox.now.replies) }
     ensures lent { KeepsLent ends.old ends.new }
 {
-    application.run(alloc, ends)
+    serve_application(alloc, ends, application)
 }

@@ -21,8 +21,7 @@ use lsp_session::laws::streams::finish_over_reader;
 use lsp_session::laws::turns::list_is_answered;
 use lsp_session::{
     BadContentPolicy, EndOnBadContent, Handler, HandlerService, ListInbox, ListOutbox, OpenGate,
-    Outbox, ProtocolError, ReadEnd, ServiceApplication, SessionEnd, SessionFault, StreamTransport,
-    start_within,
+    Outbox, ProtocolError, ReadEnd, SessionEnd, SessionFault, StreamTransport, start_within,
 };
 use serde_json::Value;
 use std::alloc::Global;
@@ -32,19 +31,19 @@ use std::io::{BufRead, Write};
 /// whoever reads what was written gets the messages that were sent.
 pub fn serve_bytes<R: BufRead, W: Write>(
     transport: &mut StreamTransport<'_, R, W, EndOnBadContent>,
-    application: &mut ServiceApplication<HandlerService<'_, Quiet>>,
+    service: &mut HandlerService<'_, Quiet>,
 ) -> Result<SessionEnd, SessionFault>
     requires { IsUnused transport.old }
     ensures { (text before written : List ℕ) → R.remaining transport.old.reader.now ≡ Some text
         → W.contents transport.old.writer.now ≡ Some before
         → W.contents transport.new.writer.now ≡ Some (before ++ written) → length written < 2 ^ 64
         → Gives transport.old.limits (Both (SessionOut (lent_handler ⟦<Quiet as Handler>⟧.answer_post
-        ⟦<Quiet as Handler>⟧.note_post) application.old.service application.new.service) (ClientReads written result))
+        ⟦<Quiet as Handler>⟧.note_post) service.old service.new) (ClientReads written result))
         text (R.remaining transport.new.reader.now) (Some before) (Some (before ++ written)) result }
 {
-    nothing_is_skipped_in_bytes::<EndOnBadContent, ServiceApplication<HandlerService<Quiet>>>();
+    nothing_is_skipped_in_bytes::<EndOnBadContent, HandlerService<Quiet>>();
     client_reads_what_was_sent::<HandlerService<Quiet>, EndOnBadContent>();
-    transport.serve(application)
+    transport.serve(service)
 }
 
 /// Waits for `initialize` in a list of fewer than ten events. There is an answer, whatever they are.

@@ -9,8 +9,8 @@ use lsp_acts::ServerApplication;
 use lsp_acts::laws::server_keeps_laws;
 use lsp_session::laws::sessions::session_answers_requests;
 use lsp_session::{
-    Application, ClientStreams, EndOnBadContent, HandlerApplication, SessionEnd, SessionOutcome,
-    TextOutbox, WakingInbox,
+    ClientStreams, EndOnBadContent, HandlerApplication, SessionEnd, SessionOutcome, TextOutbox,
+    WakingInbox, serve_application,
 };
 use lsp_watched::laws::{
     a_session_is_recorded, recorded_server_is_clean, recorded_server_keeps_lifecycle,
@@ -36,7 +36,7 @@ pub fn serve_quiet<L: WakingInbox + TextOutbox>(
     a_session_is_recorded();
     recorded_server_of_replies_is_clean();
     recorded_server_keeps_lifecycle();
-    application.run(alloc, transport)
+    serve_application(alloc, transport, application)
 }
 
 /// Serves a client with a server that answers no request before `shutdown`. As a recorder sees it, the server breaks no
@@ -52,7 +52,7 @@ pub fn serve_keeper<L: WakingInbox + TextOutbox>(
     server_keeps_lifecycle();
     recorded_server_is_clean::<Keeper>();
     server_replies_fit();
-    application.run(alloc, transport)
+    serve_application(alloc, transport, application)
 }
 
 /// Serves a client that sends these bytes, with a server that answers each request with null. Returns whether the session

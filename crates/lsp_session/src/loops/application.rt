@@ -13,50 +13,40 @@ use std::alloc::Global;
 /// A server that is ready to run. An application serves one client at a time, and says what is promised about such a
 /// session.
 ///
-/// There are three kinds. Take a `HandlerApplication` for a server that only answers (`Handler`). Take a `ServerApplication`
-/// of `lsp_acts` for one that also sends first (`Server`). Take a `ServiceApplication` for a `Service`, which decides
-/// about each message itself.
+/// There are two kinds. Take a `HandlerApplication` for a server that only answers (`Handler`). Take a
+/// `ServerApplication` of `lsp_acts` for one that also sends first (`Server`). A `Service` of your own, which decides
+/// about each message itself, becomes an application if you implement this trait: its `session` is
+/// `SessionOut Self.behavior`, and its `begin` does nothing.
 ///
-/// Two functions run any of them. `StreamTransport::serve` runs a session on a reader and a writer, on the caller's
-/// thread. `run_in_threads` of `lsp_threads` adds a thread that reads and one that writes. You need not call `run`
-/// yourself, unless your messages come from elsewhere.
-pub trait Application {
-    ghost use Rattle.lsp_session.specs.Session.{SessionPart};
+/// Three functions run any of them. `StreamTransport::serve` runs a session on a reader and a writer, on the caller's
+/// thread. `run_in_threads` of `lsp_threads` adds a thread that reads and one that writes. `serve_application` takes
+/// messages from elsewhere.
+pub trait Application: Service {
+    ghost use Rattle.lsp_session.specs.Session.{SessionOut, SessionPart};
+    ghost use Rattle.lsp_session.specs.SessionLaws.{Implies};
 
     /// What is promised about a session that led from the first value to the second: about its exchanges, why it
     /// stopped, the reply to `shutdown`, and the result.
     ghost session: { Self → Self → SessionPart };
 
-    /// Runs a session on a value that is both an inbox and an outbox (LSP 3.17, "Server lifecycle"). Everything that is
-    /// to be sent for a message is sent before the session waits for the next one. `serve_transport` describes the
-    /// session.
-    fn run<T: WakingInbox + TextOutbox>(
-        &mut self,
-        alloc: Global,
-        transport: &mut T,
-    ) -> SessionOutcome
-        ensures { Talks T.receives T.listens T.sends starting
-            (Both (session self.old self.new) (StopsBy result.stop))
-            transport.old result.answer transport.new };
+    /// Makes the application ready for a session with the next client. Whatever session of the service follows, what
+    /// `session` promises is true of it, from the value before this call on.
+    fn begin(&mut self)
+        ensures { (last : Self) → Implies (SessionOut Self.behavior self.new last) (session self.old last) };
 }
 
-/// A service as an application. What is promised about its session is what the service states about itself.
-#[derive(Drop)]
-pub struct ServiceApplication<S> {
-    /// The service, which decides which messages are sent for each message.
-    pub service: S,
-}
-
-impl<S: Service> Application for ServiceApplication<S> {
-    ghost use Rattle.lsp_session.specs.Session.{SessionOut};
-
-    ghost session = { λ old new. SessionOut S.behavior old.service new.service };
-
-    fn run<T: WakingInbox + TextOutbox>(
-        &mut self,
-        alloc: Global,
-        transport: &mut T,
-    ) -> SessionOutcome {
-        serve_transport(alloc, transport, &mut self.service)
-    }
+/// Runs a session of an application on a value that is both an inbox and an outbox (LSP 3.17, "Server lifecycle").
+/// Everything that is to be sent for a message is sent before the session waits for the next one. `serve_transport`
+/// describes the session.
+pub fn serve_application<L: WakingInbox + TextOutbox, A: Application>(
+    alloc: Global,
+    transport: &mut L,
+    application: &mut A,
+) -> SessionOutcome
+    ensures { Talks L.receives L.listens L.sends starting
+        (Both (A.session application.old application.new) (StopsBy result.stop))
+        transport.old result.answer transport.new }
+{
+    application.begin();
+    serve_transport(alloc, transport, application)
 }

@@ -5,12 +5,9 @@ ghost use Rattle.lsp_session.specs.HandlerService.{own_handler};
 ghost use Rattle.lsp_session.specs.HandlerSession.{of_handler};
 ghost use Rattle.lsp_session.specs.Session.{SessionOut};
 
-use crate::lifecycle::{TextOutbox, WakingInbox};
 use crate::loops::application::Application;
 use crate::loops::handler::{Handler, initialize_result};
 use crate::loops::service::Service;
-use crate::loops::session_outcome::SessionOutcome;
-use crate::loops::transport::serve_transport;
 use lsp_message::{Message, Notification, Request, RequestId, Response, ResponseError};
 use serde_json::Value;
 use std::alloc::{AllocError, Global};
@@ -86,11 +83,5 @@ impl<H: Handler> Application for HandlerApplication<H> {
     ghost session = { λ old new.
         SessionOut (of_handler H.answer_post H.note_post (view old.capabilities)) old.handler new.handler };
 
-    fn run<T: WakingInbox + TextOutbox>(
-        &mut self,
-        alloc: Global,
-        transport: &mut T,
-    ) -> SessionOutcome {
-        serve_transport(alloc, transport, self)
-    }
+    fn begin(&mut self) {}
 }

@@ -2,6 +2,7 @@
 ghost use Rattle.std.specs.Prelude.{◌≡◌};
 ghost use Rattle.lsp_session.specs.HandlerService.{lent_handler};
 
+use crate::loops::application::Application;
 use crate::loops::handler::{Handler, initialize_result};
 use crate::loops::service::Service;
 use lsp_message::{Message, Notification, Request, RequestId, Response, ResponseError};
@@ -71,4 +72,12 @@ impl<'a, H: Handler> Service for HandlerService<'a, H> {
     fn passes_late(&self) -> bool {
         false
     }
+}
+
+impl<'a, H: Handler> Application for HandlerService<'a, H> {
+    ghost use Rattle.lsp_session.specs.Session.{SessionOut};
+
+    ghost session = { SessionOut Self.behavior };
+
+    fn begin(&mut self) {}
 }

@@ -10,7 +10,7 @@ use crate::lifecycle::{Arrival, Event, Inbox, Outbox, SendFault, TextOutbox, Wak
 use crate::loops::transcript::{Noted, Transcript};
 use crate::loops::{
     Application, BadContentPolicy, FrameOutbox, ReadEnd, SessionEnd, SessionFault, SessionOutcome,
-    TolerantInbox, session_answer,
+    TolerantInbox, serve_application, session_answer,
 };
 use lsp_calls::CallReader;
 use lsp_message::{ByteTrace, Limits, Message, RequestId, ResultText, WriteFault};
@@ -120,7 +120,7 @@ impl<'a, R: BufRead, W: Write, L: BadContentPolicy> StreamTransport<'a, R, W, L>
         ensures reader { ReportsReader result self.new.transcript.now }
         ensures writer { ReportsWriter result self.new.transcript.now }
     {
-        let outcome = application.run(self.alloc, self);
+        let outcome = serve_application(self.alloc, self, application);
         self.answer(outcome)
     }
 

@@ -14,9 +14,8 @@ use Rattle.lsp_threads.proofs.run.run_threads_within.Goals as goal
 use Rattle.lsp_message.specs.Limits.{of_content}
 
 pub returns-clause-unstarted : goal.returns-clause-unstarted
-returns-clause-unstarted g c = rw (c.in-Err.is) at (unstarted_handler
-    (record { service = c.new-service.result }) c.run_in_threads-ran.new.application
-    c.args.handler.now _
+returns-clause-unstarted g c = rw (c.in-Err.is) at (unstarted_handler c.new-service.result
+    c.run_in_threads-ran.new.application c.args.handler.now _
     (λ names. c.handler-1.given.1 (sym c.new-service.ensures.same_handler ∙ sym names)) c.new-service.ensures.unchanged
     _ _ c.run_in_threads-ran.ensures.unstarted)
 
@@ -25,7 +24,7 @@ returns-in-Ok-clause-session g c =
     let answers = g.H.Handler.answer_post in
     let notes = g.H.Handler.note_post in
     let old = c.new-service.result in
-    let new = c.run_in_threads-ran.new.application.service in
+    let new = c.run_in_threads-ran.new.application in
     rw (c.in-Ok.is) at (started_as (SessionOut (lent_handler answers notes) old new) (SessionOut (of_handler answers
     notes (view c.args.capabilities)) c.args.handler.now _)
     (session_as answers notes (view c.args.capabilities) old new _ (λ names. c.handler-1.given.1
@@ -42,7 +41,7 @@ returns-in-Ok-clause-traced g c =
     let answers = g.H.Handler.answer_post in
     let notes = g.H.Handler.note_post in
     let old = c.new-service.result in
-    let new = c.run_in_threads-ran.new.application.service in
+    let new = c.run_in_threads-ran.new.application in
     let ran = c.run_in_threads-ran.ensures in
     let done = c.in-Ok.done in
     let passed = rw (c.in-Ok.is) at ran.passed in

@@ -10,4 +10,4 @@ returns g c = talks_as _ _ (λ xs stop answer both.
         c.recorded_server_is_clean.ensures _ _ _ xs stop answer log laws seen ids,
         c.server_replies_fit.ensures xs log laws.never_more seen ids,
       );
-    }) _ _ _ _ _ _ _ c.run.ensures
+    }) _ _ _ _ _ _ _ c.serve_application.ensures

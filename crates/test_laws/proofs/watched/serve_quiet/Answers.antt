@@ -14,4 +14,4 @@ returns g c = talks_as _ _ (λ xs stop answer both.
         c.recorded_server_of_replies_is_clean.ensures xs stop answer log kept.0 seen ids,
         c.recorded_server_keeps_lifecycle.ensures _ _ xs stop answer log kept.1 seen ids,
       );
-    }) _ _ _ _ _ _ _ c.run.ensures
+    }) _ _ _ _ _ _ _ c.serve_application.ensures

@@ -6,10 +6,10 @@ use Rattle.lsp_acts.proofs.server_application.ServerApplicationPendingDataServic
 pub returns : goal.returns
 returns g c = record {
   output = (
-    seen c.begin.new.self,
-    c.in_ok-begin.ensures,
+    seen c.on_initialized.new.self,
+    c.in_ok-on_initialized.ensures,
     c.take_sent.ensures.sent,
-    ap (λ (d : Queues _). (c.begin.new.self.server, d)) c.take_sent.ensures.rest,
+    ap (λ (d : Queues _). (c.on_initialized.new.self.server, d)) c.take_sent.ensures.rest,
   );
   err = tt;
 }
