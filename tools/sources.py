@@ -8,7 +8,8 @@ its own functions see of one another: all of src/ but bodies and comments.
     python3 tools/sources.py
 
 tries that on each file of the crates: it marks every body, clause and signature there, and looks which marks the interface and the
-heads have.
+heads have. It also lists each struct, and each variant with fields, that test_surface takes apart or makes. None of them may leave out
+fields by `..`, and those of SHAPES have to be among them, so that one with another field does not compile there.
 """
 import hashlib
 import re
@@ -25,6 +26,15 @@ TACTIC = re.compile(r"(?m)^ *#!?\[tactic\b")
 CHARACTER = r"'(?:\\(?:u\{[^}]*\}|x..|.)|[^\\'])'"
 # (a name of a proof may end in an apostrophe, which begins no character)
 MARKED = re.compile(rf'//[^\n]*|\br(#+)".*?"\1|"(?:\\.|[^"\\])*"|\bb{CHARACTER}|(?<![\w\']){CHARACTER}', re.S)
+SHAPED = re.compile(r"((?:\w+::)*[A-Z]\w*)(?:::<[^(){};]*>)?\s*\{")
+REST = re.compile(r"[{(,]\s*\.\.(?!=)(?:\s*\w+)?\s*[,)}]")
+ITEM = re.compile(r"\b(?:struct|enum|union|impl|trait|fn)\b")
+# The structs and the variants whose named fields were asked for.
+SHAPES = {
+    *("Request", "Response", "ResponseError", "Notification", "ExtractError::JsonError", "ReqQueue", "Threaded", "Connection"),
+    *(f"Step::{it}" for it in ("Register", "Pass", "Take", "Answer", "Cancel", "GiveUp")),
+    *("Call::Finish", "Answer::Work", "Answer::Cancelled", "Answer::Finished"),
+}
 PAIRS = {"(": ")", "[": "]", "{": "}"}
 BRACKET = re.compile(r"[()\[\]{}]")
 
@@ -396,6 +406,27 @@ def faults_of(text):
     return 2 * len(in_heads) + 2, faults
 
 
+def shapes_of(text):
+    """The structs and variants that a file takes apart or makes by the names of their fields, and the lines that leave out some by `..`."""
+    blank = masked(uncommented(text))[1]
+    names = []
+    for it in SHAPED.finditer(blank):
+        before = re.split(r"[;{}]", blank[: it.start()])[-1]
+        if not ITEM.search(before) or before.count("(") != before.count(")"):
+            names.append(it[1])
+    return names, [blank.count("\n", 0, it.start()) + 1 for it in REST.finditer(blank)]
+
+
+def surface_faults():
+    """(how many shapes of test_surface were looked at, what is wrong with them)."""
+    count, found, faults = len(SHAPES), set(), []
+    for path in sorted((ROOT / "crates/test_surface/src").rglob("*.rt")):
+        names, lines = shapes_of(path.read_text())
+        count, found = count + max(len(names), len(lines)), found.union(names)
+        faults += [f"{path.relative_to(ROOT)}:{it}: `..` leaves out fields" for it in lines]
+    return count, faults + [f"crates/test_surface names the fields of no {it}" for it in sorted(SHAPES - found)]
+
+
 def main():
     passed, wrong = 0, []
     for path in sorted(ROOT.glob("crates/*/src/**/*.rt")):
@@ -405,6 +436,9 @@ def main():
             count, faults = 1, [str(fault)]
         passed += count - min(count, len(faults))
         wrong += [f"{path.relative_to(ROOT)}: {it}" for it in faults]
+    count, faults = surface_faults()
+    passed += count - min(count, len(faults))
+    wrong += faults
     print(*wrong, f"sources: {passed} passed, {len(wrong)} failed", sep="\n")
     return len(wrong) > 0
 

@@ -10,6 +10,7 @@ use lsp_server::{
     WriteFault, finish, finish_within, front, read_loop, read_loop_within, serve, session,
     session_within, shutdown, start_within, wait_within, write_loop,
 };
+use serde::{DeserializeOwned, Serialize};
 use serde_json::Value;
 use std::alloc::{AllocError, Global};
 use std::cmp::Ordering;
@@ -77,24 +78,28 @@ pub fn body_text(message: &Message, alloc: Global) -> Result<String, AllocError>
     message.body_text(alloc)
 }
 
-pub fn request(
+pub fn request<P: Serialize + Drop>(
     alloc: Global,
     id: RequestId,
     method: String,
-    params: i32,
+    params: P,
 ) -> Result<Request, serde_json::Error> {
     Request::new(alloc, id, method, params)
 }
 
-pub fn notification(
+pub fn notification<P: Serialize + Drop>(
     alloc: Global,
     method: String,
-    params: i32,
+    params: P,
 ) -> Result<Notification, serde_json::Error> {
     Notification::new(alloc, method, params)
 }
 
-pub fn ok(alloc: Global, id: RequestId, value: i32) -> Result<Response, serde_json::Error> {
+pub fn ok<V: Serialize + Drop>(
+    alloc: Global,
+    id: RequestId,
+    value: V,
+) -> Result<Response, serde_json::Error> {
     Response::new_ok(alloc, id, value)
 }
 
@@ -102,19 +107,19 @@ pub fn err(id: RequestId, code: i32, message: String) -> Response {
     Response::new_err(id, code, message)
 }
 
-pub fn extract(
+pub fn extract<P: DeserializeOwned>(
     request: Request,
     alloc: Global,
     method: &str,
-) -> Result<(RequestId, i32), ExtractError<Request>> {
+) -> Result<(RequestId, P), ExtractError<Request>> {
     request.extract(alloc, method)
 }
 
-pub fn extract_params(
+pub fn extract_params<P: DeserializeOwned>(
     notification: Notification,
     alloc: Global,
     method: &str,
-) -> Result<i32, ExtractError<Notification>> {
+) -> Result<P, ExtractError<Notification>> {
     notification.extract(alloc, method)
 }
 
@@ -146,11 +151,11 @@ pub fn are_equal(a: &ProtocolError, b: &ProtocolError) -> bool {
 
 // Queues.
 
-pub fn queue(alloc: Global) -> ReqQueue<u8, u16> {
+pub fn queue<I, O>(alloc: Global) -> ReqQueue<I, O> {
     ReqQueue::default(alloc)
 }
 
-pub fn has_pending(queue: &ReqQueue<u8, u16>) -> (bool, bool, bool) {
+pub fn has_pending<I, O>(queue: &ReqQueue<I, O>) -> (bool, bool, bool) {
     (
         queue.has_pending(),
         queue.incoming.has_pending(),
@@ -158,49 +163,52 @@ pub fn has_pending(queue: &ReqQueue<u8, u16>) -> (bool, bool, bool) {
     )
 }
 
-pub fn register_incoming(
-    queue: &mut Incoming<u8>,
+pub fn register_incoming<I: Drop>(
+    queue: &mut Incoming<I>,
     id: RequestId,
-    data: u8,
-) -> Result<(), RegisterFault<u8>> {
+    data: I,
+) -> Result<(), RegisterFault<I>> {
     queue.register(id, data)
 }
 
-pub fn cancel(queue: &mut Incoming<u8>, id: RequestId) -> Result<Option<Response>, AllocError> {
+pub fn cancel<I: Drop>(
+    queue: &mut Incoming<I>,
+    id: RequestId,
+) -> Result<Option<Response>, AllocError> {
     queue.cancel(id)
 }
 
-pub fn complete_incoming(queue: &mut Incoming<u8>, id: &RequestId) -> Option<u8> {
+pub fn complete_incoming<I>(queue: &mut Incoming<I>, id: &RequestId) -> Option<I> {
     queue.complete(id)
 }
 
-pub fn is_completed(queue: &Incoming<u8>, id: &RequestId) -> bool {
+pub fn is_completed<I>(queue: &Incoming<I>, id: &RequestId) -> bool {
     queue.is_completed(id)
 }
 
-pub fn data_of<'a>(queue: &'a Incoming<u8>, id: &RequestId) -> Option<&'a u8> {
+pub fn data_of<'a, I>(queue: &'a Incoming<I>, id: &RequestId) -> Option<&'a I> {
     queue.data(id)
 }
 
-pub fn register_outgoing(
-    queue: &mut Outgoing<u16>,
+pub fn register_outgoing<O: Drop, P: Serialize + Drop>(
+    queue: &mut Outgoing<O>,
     method: String,
-    params: i32,
-    data: u16,
-) -> Result<Request, RegisterFault<u16>> {
+    params: P,
+    data: O,
+) -> Result<Request, RegisterFault<O>> {
     queue.register(method, params, data)
 }
 
-pub fn register_value(
-    queue: &mut Outgoing<u16>,
+pub fn register_value<O: Drop>(
+    queue: &mut Outgoing<O>,
     method: String,
     params: Value,
-    data: u16,
-) -> Result<Request, RegisterFault<u16>> {
+    data: O,
+) -> Result<Request, RegisterFault<O>> {
     queue.register_value(method, params, data)
 }
 
-pub fn complete_outgoing(queue: &mut Outgoing<u16>, id: RequestId) -> Option<u16> {
+pub fn complete_outgoing<O>(queue: &mut Outgoing<O>, id: RequestId) -> Option<O> {
     queue.complete(id)
 }
 

@@ -1,11 +1,13 @@
 //! Each public type whose variants or fields were asked for, taken apart without `..`.
+use crossbeam_channel::{Receiver, Sender};
 use lsp_server::dispatch::{Answer, Call, DispatchFault};
 use lsp_server::{
-    Connection, ErrorCode, Event, ExtractError, Front, IoFault, Message, Notification, Outcome,
-    Parcel, PumpFault, ReadEnd, ReadFault, RegisterFault, ReqQueue, Request, RequestId, Response,
-    ResponseError, SendFault, SessionEnd, SessionFault, Side, StartFault, Step, Threaded,
-    WorldFault, WriteEnd, WriteFault,
+    Connection, ErrorCode, Event, ExtractError, Front, Incoming, IoFault, Message, Notification,
+    Outcome, Outgoing, Parcel, PumpFault, ReadEnd, ReadFault, RegisterFault, ReqQueue, Request,
+    RequestId, Response, ResponseError, SendFault, SessionEnd, SessionFault, Side, StartFault,
+    Step, Threaded, WorldFault, WriteEnd, WriteFault,
 };
+use serde_json::Value;
 
 pub fn message(value: &Message) -> u8 {
     match value {
@@ -41,6 +43,33 @@ pub fn message(value: &Message) -> u8 {
             },
         ) => 4,
     }
+}
+
+pub fn request(value: &Request) -> (&RequestId, &String, &Value) {
+    let Request { id, method, params } = value;
+    (id, method, params)
+}
+
+pub fn response(value: &Response) -> (&RequestId, &Result<Value, ResponseError>) {
+    let Response {
+        id,
+        response_result,
+    } = value;
+    (id, response_result)
+}
+
+pub fn response_error(value: &ResponseError) -> (i32, &String, &Option<Value>) {
+    let ResponseError {
+        code,
+        message,
+        data,
+    } = value;
+    (*code, message, data)
+}
+
+pub fn notification(value: &Notification) -> (&String, &Value) {
+    let Notification { method, params } = value;
+    (method, params)
 }
 
 pub fn error_code(value: ErrorCode) -> u8 {
@@ -96,7 +125,7 @@ pub fn front(value: Front) -> usize {
     }
 }
 
-pub fn extract_error(value: &ExtractError<Request>) -> u8 {
+pub fn extract_error<T>(value: &ExtractError<T>) -> u8 {
     match value {
         ExtractError::MethodMismatch(_) => 1,
         ExtractError::JsonError {
@@ -106,7 +135,7 @@ pub fn extract_error(value: &ExtractError<Request>) -> u8 {
     }
 }
 
-pub fn register_fault(value: &RegisterFault<u8>) -> u8 {
+pub fn register_fault<T>(value: &RegisterFault<T>) -> u8 {
     match value {
         RegisterFault::Memory(_) => 1,
         RegisterFault::Unwritable(_) => 2,
@@ -114,9 +143,9 @@ pub fn register_fault(value: &RegisterFault<u8>) -> u8 {
     }
 }
 
-pub fn queues(value: &ReqQueue<u8, u16>) -> bool {
+pub fn queues<I, O>(value: &ReqQueue<I, O>) -> (&Incoming<I>, &Outgoing<O>) {
     let ReqQueue { incoming, outgoing } = value;
-    incoming.has_pending() || outgoing.has_pending()
+    (incoming, outgoing)
 }
 
 pub fn event(value: &Event) -> u8 {
@@ -190,17 +219,13 @@ pub fn pump_fault(value: PumpFault) -> u8 {
 }
 
 pub fn threaded<W>(value: &Threaded<W>) -> (&W, &Result<SessionEnd, SessionFault>) {
-    // beyond: two accounts of bytes
-    let Threaded { writer, answer, .. } = value;
+    let Threaded { writer, answer } = value;
     (writer, answer)
 }
 
-pub fn connection(value: &Connection) -> bool {
-    let Connection {
-        sender: _,
-        receiver,
-    } = value;
-    receiver.is_empty()
+pub fn connection(value: &Connection) -> (&Sender<Message>, &Receiver<Message>) {
+    let Connection { sender, receiver } = value;
+    (sender, receiver)
 }
 
 pub fn io_fault(value: IoFault) -> u8 {
@@ -246,7 +271,17 @@ pub fn step(value: &Step) -> u8 {
         Step::Cancel { side: _, id: _ } => 5,
         Step::GiveUp { side: _, id: _ } => 6,
         // beyond
-        Step::Tell { .. } | Step::Refuse { .. } => 7,
+        Step::Tell {
+            side: _,
+            method: _,
+            params: _,
+        } => 7,
+        Step::Refuse {
+            side: _,
+            id: _,
+            code: _,
+            message: _,
+        } => 8,
     }
 }
 
