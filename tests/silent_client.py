@@ -1,6 +1,7 @@
 #!/usr/bin/env python3
 """Clients that break the rules of a session or end it, and then stay connected and send nothing. On one thread, in threads and with jobs the
-server ends at once and reports why, also at an `exit` that is spelled oddly. Over a socket the next client is served while they stay, and the
+server ends at once and reports why, also at an `exit` that is spelled oddly, and where a header part gives a length that no memory holds. Over
+a socket the next client is served while they stay, and the
 server keeps nothing for them. A client that never sends anything is dropped.
 
 It ends in status 1 at the first difference.
@@ -25,6 +26,8 @@ SESSIONS = [
     ("`exit` in order", INITIALIZE + INITIALIZED + SHUTDOWN + EXIT, 0, ""),
     ("`exit` without `shutdown`", INITIALIZE + INITIALIZED + EXIT, 1, "the client left without a shutdown"),
 ]
+# The first byte of this content part never comes.
+PAST_ALL_MEMORY = b"Content-Length: 18446744073709551615\r\n\r\n"
 # Messages that are not `exit`: more is read behind each (JSON-RPC 2.0, section 4; RFC 8259). The request gets an error.
 OTHERS = [
     rb'{"method":"$/x","params":[0.5,-1e2,1.25E-3]}',
@@ -63,6 +66,12 @@ def ends_at_each_exit(way):
         with started(built(*way)) as client:
             client.send_bytes(INITIALIZE + INITIALIZED + others + SHUTDOWN + frame(last))
             has_ended(client.program, repr(last), 0, "")
+
+
+def ends_past_all_memory(way):
+    with started(built(*way)) as client:
+        client.send_bytes(INITIALIZE + INITIALIZED + PAST_ALL_MEMORY)
+        has_ended(client.program, "a length that no memory holds", 1, "out of memory")
 
 
 def ends_where_nobody_reads(way):
@@ -110,6 +119,9 @@ def gives_way():
 def check_all():
     gives_way()
     print("all ways gives way")
+    for way in [*WAYS, ["bench", "session"]]:
+        ends_past_all_memory(way)
+        print(" ".join(way), "ends past all memory")
     for way in WAYS:
         for check in [ends_at_once, ends_at_each_exit, ends_where_nobody_reads, serves_the_next]:
             check(way)
