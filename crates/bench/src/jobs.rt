@@ -95,7 +95,7 @@ where
     T: Threads + Wait + Clock + Copy + Drop + Send + 'static,
     R: BufRead + Drop + Send + 'static,
     W: Write + Drop + Send + 'static,
-    ensures { IfSome (R.remaining reader) (λ text. IfOk result (λ done.
+    ensures { IfOk result (λ done. IfSome (R.remaining reader) (λ text.
         ThreadsGiveOver true no_limit (λ exchanges stop answer. EchoesAtWakes exchanges)
         text (W.contents writer) (W.contents done.writer) done.answer)) }
 {

@@ -1,13 +1,12 @@
 // A session of the server: with threads that run jobs, on one thread, and with a thread that reads and one that writes.
-ghost use Rattle.std.specs.Prelude.{◌≡◌, [], List, IfOk, Some, true};
+ghost use Rattle.std.specs.Prelude.{◌≡◌, [], List, IfOk, false, true};
 ghost use Rattle.lsp_diagnostics.specs.Answered.{AnswersFromOpenTexts};
 ghost use Rattle.lsp_diagnostics.specs.Shown.{ShowsOpenTexts};
 ghost use Rattle.lsp_documents.specs.Sessions.{HasNone};
 ghost use Rattle.lsp_jobs.specs.JobLaw.{LawfulJobSession};
 ghost use Rattle.lsp_session.specs.Session.{Exchange, SessionAnswer, Stop};
 ghost use Rattle.lsp_session.specs.StreamTransports.{IsUnused, Serves};
-ghost use Rattle.lsp_threads.specs.Passing.{GivenTo, OfTaken, TakenFrom, noted};
-ghost use Rattle.lsp_threads.specs.Threads.{ThreadsTell, ThreadsTellOver};
+ghost use Rattle.lsp_threads.specs.InThreads.{ServesInThreads};
 ghost use Rattle.example_toml.specs.Sessions.{AnswersOnce, TomlSession};
 
 use crate::server::TomlServer;
@@ -59,13 +58,11 @@ where
     W: Write + Drop + Send + 'static,
     requires commands { server.texts.commands.items ≡ [] }
     requires documents { HasNone server.texts.documents }
-    ensures told { IfOk result.1 (λ done. OfTaken done.taken.parts (λ text.
-        ThreadsTellOver true ⟦<SkipAndFlag as BadContentPolicy>⟧.passes client.limits (TomlSession T
+    ensures session { IfOk result.1 (λ done. ServesInThreads true ⟦<SkipAndFlag as BadContentPolicy>⟧.passes
+        client.limits skipped.old skipped.new (TomlSession T
         ⟦<Work as Analysis>⟧.are ⟦<Work as TextQuery>⟧.answers ⟦<TomlServer as Server>⟧
-        ⟦<TomlServer as StatesJobs<Work>>⟧.jobs server result.0)
-        text skipped.old skipped.new (Some []) (noted done.given) done.answer)) }
-    ensures passed { IfOk result.1 (λ done. TakenFrom (R.remaining client.reader) done.taken.parts
-        × GivenTo (W.contents client.writer) done.given.parts (W.contents done.writer)) }
+        ⟦<TomlServer as StatesJobs<Work>>⟧.jobs server result.0) (R.remaining client.reader)
+        (W.contents client.writer) (W.contents done.writer) done.taken done.given done.order done.answer) }
 {
     session_with_jobs_keeps_laws::<T, TomlServer, Work>();
     problems_are_of_held_texts::<T>();
@@ -141,12 +138,10 @@ where
     T: Threads + Wait + Copy + Drop + Send + 'static,
     R: BufRead + Drop + Send + 'static,
     W: Write + Drop + Send + 'static,
-    ensures told { IfOk result.1 (λ done. OfTaken done.taken.parts (λ text.
-        ThreadsTell ⟦<SkipAndFlag as BadContentPolicy>⟧.passes client.limits (AnswersOnce ⟦<InlineServer as Server>⟧
-        server result.0)
-        text skipped.old skipped.new (Some []) (noted done.given) done.answer)) }
-    ensures passed { IfOk result.1 (λ done. TakenFrom (R.remaining client.reader) done.taken.parts
-        × GivenTo (W.contents client.writer) done.given.parts (W.contents done.writer)) }
+    ensures session { IfOk result.1 (λ done. ServesInThreads false ⟦<SkipAndFlag as BadContentPolicy>⟧.passes
+        client.limits skipped.old skipped.new (AnswersOnce ⟦<InlineServer as Server>⟧ server result.0)
+        (R.remaining client.reader) (W.contents client.writer) (W.contents done.writer)
+        done.taken done.given done.order done.answer) }
 {
     server_keeps_laws::<InlineServer>();
     let mut options = ThreadOptions::new();

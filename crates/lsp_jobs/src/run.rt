@@ -1,10 +1,7 @@
 // A session of a server whose long requests are jobs, in threads.
-ghost use Rattle.std.specs.Prelude.{◌≡◌, true, [], Some, IfOk, IfSome, OnErr};
+ghost use Rattle.std.specs.Prelude.{◌≡◌, true, IfOk, OnErr};
 ghost use Rattle.lsp_message.specs.Frame.{no_limit};
-ghost use Rattle.lsp_session.specs.SessionLaws.{Both};
-ghost use Rattle.lsp_threads.specs.Order.{TellsInOrder};
-ghost use Rattle.lsp_threads.specs.Passing.{GivenTo, OfTaken, TakenFrom, noted};
-ghost use Rattle.lsp_threads.specs.Threads.{FlushesInThreads, ReportsReader, ReportsWriter, ThreadsTellOver};
+ghost use Rattle.lsp_threads.specs.InThreads.{ServesInThreads};
 ghost use Rattle.lsp_jobs.specs.JobSession.{JobSession};
 
 use crate::job::Job;
@@ -77,9 +74,9 @@ impl JobOptions {
 /// - At the end all jobs are to end, and all threads are joined. So the call returns only when the running jobs have
 ///   ended.
 ///
-/// `told` holds for every reader and writer, also for standard input and output or a socket. It is about the bytes that
-/// the session took, with any bytes after them, and about those that it gave. It says about them what `session` says if
-/// the reader's bytes are known. `order`, `flushed`, `reader` and `writer` are those of `run_in_threads`.
+/// The clause `session` holds for every reader and writer, also for standard input and output or a socket. It is about
+/// the bytes that the session took, with any bytes after them, and about those that it gave, as that of
+/// `run_in_threads`.
 pub fn run_jobs<T, R, W, S, J, L>(
     rt: &T,
     alloc: Global,
@@ -98,27 +95,9 @@ where
     J::Found: Send + 'static,
     L: BadContentPolicy,
     ensures unstarted { OnErr result.1 ((result.0 ≡ server) × (policy.new ≡ policy.old)) }
-    ensures told { IfOk result.1 (λ done. OfTaken done.taken.parts (λ text.
-        ThreadsTellOver true L.passes options.threads.limits
-        (JobSession T S.Server ⟦<S as StatesJobs<J>>⟧.jobs server result.0) text
-        policy.old policy.new (Some []) (noted done.given) done.answer)) }
-    ensures passed { IfOk result.1 (λ done. TakenFrom (R.remaining reader) done.taken.parts
-        × GivenTo (W.contents writer) done.given.parts (W.contents done.writer)) }
-    ensures order { IfOk result.1 (λ done. OfTaken done.taken.parts (λ text.
-        TellsInOrder true L.passes options.threads.limits (R.remaining reader) policy.old
-        (JobSession T S.Server ⟦<S as StatesJobs<J>>⟧.jobs server result.0) text
-        policy.new done.order done.given.parts done.answer)) }
-    ensures flushed { IfOk result.1 (λ done. FlushesInThreads done.answer done.given.parts) }
-    ensures reader { IfOk result.1 (λ done. OfTaken done.taken.parts (λ text.
-        ThreadsTellOver true L.passes options.threads.limits
-        (Both (JobSession T S.Server ⟦<S as StatesJobs<J>>⟧.jobs server result.0)
-        (ReportsReader done.answer done.taken)) text
-        policy.old policy.new (Some []) (noted done.given) done.answer)) }
-    ensures writer { IfOk result.1 (λ done. ReportsWriter done.answer done.given) }
-    ensures session { IfSome (R.remaining reader) (λ text. IfOk result.1 (λ done.
-        ThreadsTellOver true L.passes options.threads.limits
-        (JobSession T S.Server ⟦<S as StatesJobs<J>>⟧.jobs server result.0) text
-        policy.old policy.new (W.contents writer) (W.contents done.writer) done.answer)) }
+    ensures session { IfOk result.1 (λ done. ServesInThreads true L.passes options.threads.limits policy.old policy.new
+        (JobSession T S.Server ⟦<S as StatesJobs<J>>⟧.jobs server result.0) (R.remaining reader)
+        (W.contents writer) (W.contents done.writer) done.taken done.given done.order done.answer) }
 {
     let Ok((mut tx, rx)) = relay::<Contents, ContentsPlan>(alloc, ROOM) else {
         return (server, Err(StartFault::Memory));

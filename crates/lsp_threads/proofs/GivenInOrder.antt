@@ -1,25 +1,17 @@
 -- The thread that writes gives what the session sent, in order.
 use Rattle.std.proofs.Common.{◌≡◌, sym, refl, ◌∙◌, ap, subst, inl, inr, ℕ, Bool, false, List, [], ◌∷◌, ◌++◌}
-use Rattle.std.proofs.Common.{append_assoc, Option, Some, None, Result, Ok, Err}
+use Rattle.std.proofs.Common.{append_assoc, Option, Some, None}
 use Rattle.std.specs.List.{concat, FoldsTo}
-use Rattle.std.specs.Prelude.{IfOk}
 use mathlib.Core.List.{IsPrefix}
 use Rattle.lsp_message.specs.Message.{Message}
 use Rattle.lsp_message.specs.Told.{Parts}
 use Rattle.lsp_message.specs.declared.frame.ReadFault.{ReadFault}
 use Rattle.lsp_message.specs.declared.frame.limits.Limits.{Limits}
 use Rattle.lsp_relay.specs.declared.ends.Parcel.{Parcel}
-use Rattle.lsp_session.proofs.Lending.{over_as}
 use Rattle.lsp_session.specs.PassingBytes.{SkipsNoContent}
-use Rattle.lsp_session.specs.Session.{came_of, Exchange, SessionAnswer, SessionPart, Stop}
-use Rattle.lsp_session.specs.SessionLaws.{Both}
-use Rattle.lsp_session.specs.declared.loops.handler.SessionEnd.{SessionEnd}
-use Rattle.lsp_session.specs.declared.loops.stream_session.SessionFault.{SessionFault}
-use Rattle.lsp_threads.proofs.Sessions.{none_passed}
+use Rattle.lsp_session.specs.Session.{came_of, Exchange, SessionAnswer, Stop}
 use Rattle.lsp_threads.proofs.Writes.{writes-as}
-use Rattle.lsp_threads.specs.Order.{Answers, GivesInOrder, MarksAnswer, SkipsNone, TellsInOrder}
-use Rattle.lsp_threads.specs.Order.{ThreadsGiveInOrder}
-use Rattle.lsp_threads.specs.Passing.{OfTaken}
+use Rattle.lsp_threads.specs.Order.{Answers, GivesInOrder, MarksAnswer, SkipsNone}
 use Rattle.lsp_threads.specs.Threads.{ReadsFrameOrWakes}
 use Rattle.lsp_threads.specs.Writes.{AllWrites, Begun, EndsAtMark, IsAmong, KeepsMarks, Mark, marks_of}
 use Rattle.lsp_threads.specs.declared.frame_text.FrameText.{FrameText}
@@ -88,26 +80,9 @@ module _ {L : Type 0} (passes : L → ReadFault → L → Type 0) (limit : Limit
     is.9,
   )
 
-  -- it gives in order, and so does one that is described otherwise
-  pub started_in_order : (P Q : SessionPart)
-      (to : (xs : List Exchange) (stop : Stop) (answer : SessionAnswer) → P xs stop answer → Q xs stop answer)
-      (last : L) {T F : Type 0} (taken : T → Parts) (writes : T → List Begun) (given : T → Parts) (answer_of : T
-      → Result SessionEnd SessionFault) (result : Result T F)
-      → IfOk result (λ done. OfTaken (taken done) (λ text. TellsInOrder false passes limit known first P text last
-      (writes done) (given done) (answer_of done)))
-      → IfOk result (λ done. OfTaken (taken done) (λ text. ThreadsGiveInOrder limit known Q text (writes done)
-      (given done) (answer_of done)))
-  started_in_order P Q to last taken writes given answer_of (Err fault) tells = tt
-  started_in_order P Q to last taken writes given answer_of (Ok done) tells = λ rest ends.
-      let text = concat (taken done) ++ rest in
-      let ordered : SessionPart = GivesInOrder false passes limit known first (writes done) (given done) in
-      let other : SessionPart = GivesInOrder false SkipsNone limit known tt (writes done) (given done) in
-      let also : (xs : List Exchange) (stop : Stop) (answer : SessionAnswer) → Both P ordered xs stop answer
-      → Both Q other xs stop answer =
-      λ xs stop answer both. (
-        to xs stop answer both.0,
-        writes-as (Answers false passes limit known first xs) (Answers false SkipsNone limit known tt xs)
-            (answers_alone xs) (writes done) (given done) both.1,
-      ) in
-      over_as (Both P ordered) (Both Q other) also _ text _ _ (none_passed false passes limit first last never
-      (Both P ordered) text (Some []) (Some (concat (given done))) (answer_of done) (tells rest ends))
+  -- so it gives in the order of one that skips nothing
+  pub in_order_alone : (writes : List Begun) (given : Parts) (xs : List Exchange) (stop : Stop) (answer : SessionAnswer)
+      → GivesInOrder false passes limit known first writes given xs stop answer
+      → GivesInOrder false SkipsNone limit known tt writes given xs stop answer
+  in_order_alone writes given xs stop answer is = writes-as (Answers false passes limit known first xs)
+      (Answers false SkipsNone limit known tt xs) (answers_alone xs) writes given is

@@ -10,6 +10,7 @@ pub mod GivenInOrder
 pub mod GoesOn
 pub mod Handed
 pub mod HeaderFaults
+pub mod InThreads
 pub mod Leaving
 pub mod Order
 pub mod RefusedFailures

@@ -2,15 +2,14 @@
 use Rattle.std.proofs.Common.{arith, ◌≡◌, ◌≤◌, refl, ◌∙◌, ap, subst, inl, inr, ℕ, Bool, true, false, List, [], ◌∷◌}
 use Rattle.std.proofs.Common.{◌++◌, Some, None, Option, IfSome}
 use Rattle.std.specs.Bool.{MatchBool}
-use Rattle.std.specs.List.{concat, FoldsTo}
-use Rattle.std.specs.Prelude.{Result, Ok, Err, IfOk, OnErr}
+use Rattle.std.specs.List.{FoldsTo}
+use Rattle.std.specs.Prelude.{Result, Ok, Err, OnErr}
 use mathlib.Core.List.{IsPrefix}
 use Rattle.lsp_message.specs.Message.{Message as Sent}
 use Rattle.lsp_message.specs.declared.frame.ReadFault.{ReadFault}
 use Rattle.lsp_message.specs.declared.frame.WriteFault.{WriteFault}
 use Rattle.lsp_relay.specs.Relay.{ended, has_end, Sending}
 use Rattle.lsp_relay.specs.declared.ends.Parcel.{Parcel}
-use Rattle.lsp_session.proofs.Lending.{over_as}
 use Rattle.lsp_session.specs.PassingBytes.{SkipsNoContent}
 use Rattle.lsp_session.specs.Session.{starting, came_of, Exchange, messages_of, SessionAnswer, SessionPart, sends_of}
 use Rattle.lsp_session.specs.Session.{Stop}
@@ -28,9 +27,7 @@ use Rattle.lsp_threads.proofs.ContentStream.{as_stream}
 use Rattle.lsp_threads.proofs.Replies.{all_replied, replies_written, session_gives}
 use Rattle.lsp_threads.specs.Contents.{Contents, ContentsGive, HandsWhole, Receiving}
 use Rattle.lsp_threads.specs.Framing.{parcel_bytes, AreEnded, WritesParcels}
-use Rattle.lsp_message.specs.Told.{Parts}
 use Rattle.lsp_message.specs.declared.frame.limits.Limits.{Limits}
-use Rattle.lsp_threads.specs.Passing.{OfTaken}
 use Rattle.lsp_threads.specs.Replies.{Replying, RepliesSend, reply_fault, WritesReplies}
 use Rattle.lsp_threads.specs.Threads.{ReadsFrameOrWakes, ReadsOrWakes, session_end, ThreadsGiveOver, ThreadsTellOver}
 use Rattle.lsp_threads.specs.declared.frame_text.FrameText.{FrameText}
@@ -88,65 +85,8 @@ module _ {L : Type 0} (passes : L → ReadFault → L → Type 0) (limit : Limit
         (inbox', outbox') answer runs
         text inbox.1 s.0 s.1.0 (reply_fault fault outbox'.failed) output_written))
 
--- A session in threads that is described otherwise.
-module _ (P Q : SessionPart)
-    (to : (xs : List Exchange) (stop : Stop) (answer : SessionAnswer)
-    → P xs stop answer → Q xs stop answer) (wakeable : Bool) (limit : Limits) where
-  -- if the bytes are known, and both threads were started
-  pub started_as : {T F : Type 0} (contents : T → Option (List ℕ)) (answer_of : T → Result SessionEnd SessionFault)
-      (known old : Option (List ℕ)) (result : Result T F)
-      → IfSome known (λ text. IfOk result (λ done. ThreadsGiveOver wakeable limit P text old (contents done)
-      (answer_of done)))
-      → IfSome known (λ text. IfOk result (λ done. ThreadsGiveOver wakeable limit Q text old (contents done)
-      (answer_of done)))
-  started_as contents answer_of None old result gives = tt
-  started_as contents answer_of (Some text) old (Ok done) gives = over_as P Q to _ text _ _ gives
-  started_as contents answer_of (Some text) old (Err fault) gives = tt
-
--- The same of one that asks a policy.
+-- of a session that asks a policy
 module _ (wakeable : Bool) {L : Type 0} (passes : L → ReadFault → L → Type 0) (limit : Limits) (first last : L) where
-  pub started_told_as : (P Q : SessionPart)
-      (to : (xs : List Exchange) (stop : Stop) (answer : SessionAnswer)
-      → P xs stop answer → Q xs stop answer)
-      {T F : Type 0} (contents : T → Option (List ℕ)) (answer_of : T → Result SessionEnd SessionFault)
-      (known old : Option (List ℕ)) (result : Result T F)
-      → IfSome known (λ text. IfOk result (λ done. ThreadsTellOver wakeable passes limit P text first last old
-      (contents done) (answer_of done)))
-      → IfSome known (λ text. IfOk result (λ done. ThreadsTellOver wakeable passes limit Q text first last old
-      (contents done) (answer_of done)))
-  started_told_as P Q to contents answer_of None old result tells = tt
-  started_told_as P Q to contents answer_of (Some text) old (Ok done) tells = over_as P Q to _ (text, first) _ _ tells
-  started_told_as P Q to contents answer_of (Some text) old (Err fault) tells = tt
-
-  -- the same of the bytes that were taken, also if it is described by its result
-  pub each_told_as : {T F : Type 0} (P Q : T → SessionPart)
-      (to : (done : T) (xs : List Exchange) (stop : Stop) (answer : SessionAnswer)
-      → P done xs stop answer → Q done xs stop answer)
-      (taken : T → Parts) (given : T → Option (List ℕ)) (answer_of : T → Result SessionEnd SessionFault)
-      (result : Result T F)
-      → IfOk result (λ done. OfTaken (taken done) (λ text. ThreadsTellOver wakeable passes limit (P done) text first
-      last (Some []) (given done) (answer_of done)))
-      → IfOk result (λ done. OfTaken (taken done) (λ text. ThreadsTellOver wakeable passes limit (Q done) text first
-      last (Some []) (given done) (answer_of done)))
-  each_told_as P Q to taken given answer_of (Ok done) tells = λ rest ends. over_as (P done) (Q done) (to done) _ (
-    concat (taken done)
-        ++ rest,
-    first,
-  ) _ _ (tells rest ends)
-  each_told_as P Q to taken given answer_of (Err fault) tells = tt
-
-  pub taken_told_as : (P Q : SessionPart)
-      (to : (xs : List Exchange) (stop : Stop) (answer : SessionAnswer)
-      → P xs stop answer → Q xs stop answer)
-      {T F : Type 0} (taken : T → Parts) (given : T → Option (List ℕ)) (answer_of : T → Result SessionEnd SessionFault)
-      (result : Result T F)
-      → IfOk result (λ done. OfTaken (taken done) (λ text. ThreadsTellOver wakeable passes limit P text first last
-      (Some []) (given done) (answer_of done)))
-      → IfOk result (λ done. OfTaken (taken done) (λ text. ThreadsTellOver wakeable passes limit Q text first last
-      (Some []) (given done) (answer_of done)))
-  taken_told_as P Q to taken given answer_of result = each_told_as (λ done. P) (λ done. Q) (λ done. to) taken given
-      answer_of result
-
   -- A policy that passes over nothing: each frame is a message, and each wake is given by others.
   module _ (never : SkipsNoContent passes) where
     reads_or_wakes : (came : List (Option Sent)) (from to : List ℕ × L) → FoldsTo (ReadsFrameOrWakes wakeable passes
@@ -173,33 +113,6 @@ module _ (wakeable : Bool) {L : Type 0} (passes : L → ReadFault → L → Type
       ends = tells.ends.0;
       wrote = tells.wrote;
     }
-
-    -- if the bytes are known, and both threads were started
-    pub started_untold : (P : SessionPart) {T F : Type 0} (contents : T → Option (List ℕ)) (answer_of : T
-        → Result SessionEnd SessionFault) (known old : Option (List ℕ)) (result : Result T F)
-        → IfSome known (λ text. IfOk result (λ done. ThreadsTellOver wakeable passes limit P text first last old
-        (contents done) (answer_of done)))
-        → IfSome known (λ text. IfOk result (λ done. ThreadsGiveOver wakeable limit P text old (contents done)
-        (answer_of done)))
-    started_untold P contents answer_of None old result tells = tt
-    started_untold P contents answer_of (Some text) old (Ok done) tells = none_passed P text old (contents done)
-        (answer_of done) tells
-    started_untold P contents answer_of (Some text) old (Err fault) tells = tt
-
-    -- the same of the bytes that were taken, if it is described otherwise, also by its result
-    pub started_told : {T F : Type 0} (P Q : T → SessionPart)
-        (to : (done : T) (xs : List Exchange) (stop : Stop) (answer : SessionAnswer)
-        → P done xs stop answer → Q done xs stop answer)
-        (taken : T → Parts) (given : T → Option (List ℕ)) (answer_of : T → Result SessionEnd SessionFault)
-        (result : Result T F)
-        → IfOk result (λ done. OfTaken (taken done) (λ text. ThreadsTellOver wakeable passes limit (P done) text first
-        last (Some []) (given done) (answer_of done)))
-        → IfOk result (λ done. OfTaken (taken done) (λ text. ThreadsGiveOver wakeable limit (Q done) text (Some [])
-        (given done) (answer_of done)))
-    started_told P Q to taken given answer_of (Ok done) tells =
-        λ rest ends. let text = concat (taken done) ++ rest in over_as (P done) (Q done) (to done) _ text _ _
-        (none_passed (P done) text (Some []) (given done) (answer_of done) (tells rest ends))
-    started_told P Q to taken given answer_of (Err fault) tells = tt
 
 -- a handler that was lent to a session which did not start is as it was
 pub unstarted_handler : {H T F : Type 0} (old new : HandlerService H) (first last : H)

@@ -221,7 +221,7 @@ module _ (old new : Receiving) where
 
 -- of an inbox and its policy
 module _ {L : Type 0} (passes : L → ReadFault → L → Type 0) where
-  -- The next content part is no message. The policy policy of it, and the messages go on. No wake of the relay was
+  -- The next content part is no message. The policy is asked about it, and the messages go on. No wake of the relay was
   -- taken.
   abbrev pub PassesPart : Receiving × L → Receiving × L → Type 0
   PassesPart old new =

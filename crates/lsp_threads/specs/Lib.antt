@@ -1,12 +1,12 @@
 pub mod Contents
 pub mod Framing
 pub mod GoesOn
+pub mod InThreads
 pub mod Order
 pub mod Passing
 pub mod Pump
 pub mod Replies
 pub mod ThreadEnds
 pub mod Threads
-pub mod Traces
 pub mod Writes
 pub use Rattle.lsp_relay.specs.Relay

@@ -1,7 +1,7 @@
 -- In which order a session in threads takes messages and gives frames: no frame before the message that it answers was
 -- taken.
 use Rattle.std.specs.List.{concat, FoldsTo}
-use Rattle.std.specs.Prelude.{◌≡◌, ℕ, Bool, false, List, [], ◌++◌, Option, Some, Result}
+use Rattle.std.specs.Prelude.{◌≡◌, ℕ, Bool, List, [], ◌++◌, Option, Some, Result}
 use mathlib.Core.List.{IsPrefix}
 use Rattle.lsp_message.specs.Message.{Message}
 use Rattle.lsp_message.specs.Told.{Parts}
@@ -13,7 +13,7 @@ use Rattle.lsp_session.specs.SessionLaws.{Both}
 use Rattle.lsp_session.specs.declared.loops.handler.SessionEnd.{SessionEnd}
 use Rattle.lsp_session.specs.declared.loops.stream_session.SessionFault.{SessionFault}
 use Rattle.lsp_threads.specs.Passing.{TakenFrom}
-use Rattle.lsp_threads.specs.Threads.{ReadsFrameOrWakes, ThreadsGive, ThreadsTellOver}
+use Rattle.lsp_threads.specs.Threads.{ReadsFrameOrWakes, ThreadsTellOver}
 use Rattle.lsp_threads.specs.Writes.{AllWrites, Begun, IsAmong, Mark}
 
 -- of a session that asks a policy at content parts which are no messages, and that others can wake or not
@@ -37,7 +37,7 @@ module _ (wakeable : Bool) {L : Type 0} (passes : L → ReadFault → L → Type
   abbrev pub GivesInOrder : List Begun → Parts → SessionPart
   GivesInOrder writes given exchanges stop answer = AllWrites (Answers exchanges) writes given
 
-  -- A session that tells what `ThreadsTellOver` says, and gives in this order.
+  -- For private clauses: a session that tells what `ThreadsTellOver` says, and gives in this order.
   abbrev pub TellsInOrder : SessionPart → List ℕ → L → List Begun → Parts → Result SessionEnd SessionFault → Type 0
   TellsInOrder P text last writes given result =
       ThreadsTellOver wakeable passes limit (Both P (GivesInOrder writes given)) text first last (Some [])
@@ -51,10 +51,3 @@ module _ (wakeable : Bool) {L : Type 0} (passes : L → ReadFault → L → Type
 -- no content part is skipped
 abbrev pub SkipsNone : Unit {0} → ReadFault → Unit {0} → Type 0
 SkipsNone old fault new = ⊥
-
--- The same of a session that passes over nothing, and that nobody can wake.
-abbrev pub ThreadsGiveInOrder : Limits → Option (List ℕ) → SessionPart → List ℕ → List Begun → Parts
-    → Result SessionEnd SessionFault → Type 0
-ThreadsGiveInOrder limit known P text writes given result =
-    ThreadsGive limit (Both P (GivesInOrder false SkipsNone limit known tt writes given)) text (Some [])
-    (Some (concat given)) result

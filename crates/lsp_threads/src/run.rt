@@ -1,15 +1,10 @@
 //! Sessions with a reading thread and a writing thread: of a handler, and of any application.
 ghost use Rattle.serde_json.specs.View.{view};
-ghost use Rattle.std.specs.Prelude.{◌≡◌, [], false, IfOk, IfSome, OnErr, Some};
+ghost use Rattle.std.specs.Prelude.{◌≡◌, [], false, IfOk, OnErr};
 ghost use Rattle.lsp_message.specs.Frame.{no_limit, of_content};
 ghost use Rattle.lsp_session.specs.HandlerSession.{of_handler};
 ghost use Rattle.lsp_session.specs.Session.{SessionOut};
-ghost use Rattle.lsp_session.specs.SessionLaws.{Both};
-ghost use Rattle.lsp_threads.specs.Order.{TellsInOrder};
-ghost use Rattle.lsp_threads.specs.Passing.{GivenTo, OfTaken, TakenFrom, noted};
-ghost use Rattle.lsp_threads.specs.Threads.{FlushesInThreads, ReportsReader, ReportsWriter, ThreadsGive, ThreadsTell};
-ghost use Rattle.lsp_threads.specs.Threads.{ThreadsTellOver};
-ghost use Rattle.lsp_threads.specs.Traces.{HasTraces};
+ghost use Rattle.lsp_threads.specs.InThreads.{HandlesInThreads, ServesInThreads};
 
 use crate::content_batch::{Contents, ContentsPlan, ContentsRx, ContentsTx};
 use crate::serving::{serve_between, start_both};
@@ -121,11 +116,11 @@ impl ThreadOptions {
 /// - After a failed write nothing more is written, and the session goes on until it has something to send. So the
 ///   handler may get messages that `session` would not have read. While it has nothing to send, it waits for the
 ///   client.
-/// - The clause `traced` says of the bytes that were taken and given: no frame was given before the message that it
+/// - The clause `session` says also of the bytes that were taken and given: no frame was given before the message that it
 ///   answers was taken. All that was given was flushed, unless a write or a flush failed. Read fault 1 and write fault 1
 ///   are reported only if the reader or the writer failed, with the kind of its error. After 2^64 - 1 bytes or messages
 ///   the session may give up, with the kind `Other`.
-/// - If the bytes of the reader or the writer are not known, as those of standard input or a socket, `traced` does not
+/// - If the bytes of the reader or the writer are not known, as those of standard input or a socket, the clause does not
 ///   name them. `run_in_threads` does: its result has the traces.
 pub fn run_threads<T, R, W, H>(
     rt: &T,
@@ -141,11 +136,7 @@ where
     W: Write + Drop + Send + 'static,
     H: Handler,
     ensures unstarted { OnErr result (handler.new ≡ handler.old) }
-    ensures session { IfSome (R.remaining reader) (λ text. IfOk result (λ done.
-        ThreadsGive no_limit
-        (SessionOut (of_handler H.answer_post H.note_post (view capabilities)) handler.old handler.new)
-        text (W.contents writer) (W.contents done.writer) done.answer)) }
-    ensures traced { IfOk result (λ done. HasTraces no_limit
+    ensures session { IfOk result (λ done. HandlesInThreads no_limit
         (SessionOut (of_handler H.answer_post H.note_post (view capabilities)) handler.old handler.new)
         (R.remaining reader) (W.contents writer) (W.contents done.writer) done.answer) }
 {
@@ -170,11 +161,7 @@ where
     W: Write + Drop + Send + 'static,
     H: Handler,
     ensures unstarted { OnErr result (handler.new ≡ handler.old) }
-    ensures session { IfSome (R.remaining reader) (λ text. IfOk result (λ done.
-        ThreadsGive (of_content limit)
-        (SessionOut (of_handler H.answer_post H.note_post (view capabilities)) handler.old handler.new)
-        text (W.contents writer) (W.contents done.writer) done.answer)) }
-    ensures traced { IfOk result (λ done. HasTraces (of_content limit)
+    ensures session { IfOk result (λ done. HandlesInThreads (of_content limit)
         (SessionOut (of_handler H.answer_post H.note_post (view capabilities)) handler.old handler.new)
         (R.remaining reader) (W.contents writer) (W.contents done.writer) done.answer) }
 {
@@ -206,8 +193,8 @@ where
 /// Runs a session of an application (LSP 3.17, "Server lifecycle") with a reading thread, a writing thread and the
 /// application on the caller's thread, and returns its result. Call this if your server is to read on while it works.
 /// `StreamTransport::serve` of `lsp_session` does the same on one thread, and says of all bytes in which order they were
-/// taken and given. In every schedule the answer and the bytes that are written are those that a session allows. The
-/// clause `order` says that no frame is given before the message that it answers was taken.
+/// taken and given. In every schedule the answer and the bytes that are written are those that a session allows. No
+/// frame is given before the message that it answers was taken.
 ///
 /// The start, the faults, the gathering of replies and the end are those of `run_threads`, except for content parts
 /// that are no messages. A `StartFault` means that a thread was not started, or that an allocation failed. Then nothing
@@ -235,24 +222,9 @@ where
     A: Application,
     L: BadContentPolicy,
     ensures unstarted { OnErr result ((application.new ≡ application.old) × (policy.new ≡ policy.old)) }
-    ensures told { IfOk result (λ done. OfTaken done.taken.parts (λ text.
-        ThreadsTell L.passes options.limits (A.session application.old application.new) text
-        policy.old policy.new (Some []) (noted done.given) done.answer)) }
-    ensures order { IfOk result (λ done. OfTaken done.taken.parts (λ text.
-        TellsInOrder false L.passes options.limits (R.remaining reader) policy.old
-        (A.session application.old application.new) text
-        policy.new done.order done.given.parts done.answer)) }
-    ensures passed { IfOk result (λ done. TakenFrom (R.remaining reader) done.taken.parts
-        × GivenTo (W.contents writer) done.given.parts (W.contents done.writer)) }
-    ensures flushed { IfOk result (λ done. FlushesInThreads done.answer done.given.parts) }
-    ensures reader { IfOk result (λ done. OfTaken done.taken.parts (λ text.
-        ThreadsTell L.passes options.limits
-        (Both (A.session application.old application.new) (ReportsReader done.answer done.taken)) text
-        policy.old policy.new (Some []) (noted done.given) done.answer)) }
-    ensures writer { IfOk result (λ done. ReportsWriter done.answer done.given) }
-    ensures session { IfSome (R.remaining reader) (λ text. IfOk result (λ done.
-        ThreadsTell L.passes options.limits (A.session application.old application.new) text
-        policy.old policy.new (W.contents writer) (W.contents done.writer) done.answer)) }
+    ensures session { IfOk result (λ done. ServesInThreads false L.passes options.limits policy.old policy.new
+        (A.session application.old application.new) (R.remaining reader) (W.contents writer) (W.contents done.writer)
+        done.taken done.given done.order done.answer) }
 {
     let Ok(ends) = relay::<Contents, ContentsPlan>(alloc, ROOM) else {
         return Err(StartFault::Memory);
@@ -296,26 +268,9 @@ where
     requires fresh { (ends.0.sent ≡ []) × (ends.1.taken ≡ []) }
     requires same { ends.1.relay ≡ ends.0.relay }
     ensures unstarted { OnErr result ((application.new ≡ application.old) × (policy.new ≡ policy.old)) }
-    ensures told { IfOk result (λ done. OfTaken done.taken.parts (λ text.
-        ThreadsTellOver ends.0.wakeable L.passes options.limits
-        (A.session application.old application.new) text
-        policy.old policy.new (Some []) (noted done.given) done.answer)) }
-    ensures order { IfOk result (λ done. OfTaken done.taken.parts (λ text.
-        TellsInOrder ends.0.wakeable L.passes options.limits (R.remaining reader) policy.old
-        (A.session application.old application.new) text
-        policy.new done.order done.given.parts done.answer)) }
-    ensures passed { IfOk result (λ done. TakenFrom (R.remaining reader) done.taken.parts
-        × GivenTo (W.contents writer) done.given.parts (W.contents done.writer)) }
-    ensures flushed { IfOk result (λ done. FlushesInThreads done.answer done.given.parts) }
-    ensures reader { IfOk result (λ done. OfTaken done.taken.parts (λ text.
-        ThreadsTellOver ends.0.wakeable L.passes options.limits
-        (Both (A.session application.old application.new) (ReportsReader done.answer done.taken)) text
-        policy.old policy.new (Some []) (noted done.given) done.answer)) }
-    ensures writer { IfOk result (λ done. ReportsWriter done.answer done.given) }
-    ensures session { IfSome (R.remaining reader) (λ text. IfOk result (λ done.
-        ThreadsTellOver ends.0.wakeable L.passes options.limits
-        (A.session application.old application.new) text
-        policy.old policy.new (W.contents writer) (W.contents done.writer) done.answer)) }
+    ensures session { IfOk result (λ done. ServesInThreads ends.0.wakeable L.passes options.limits policy.old policy.new
+        (A.session application.old application.new) (R.remaining reader) (W.contents writer) (W.contents done.writer)
+        done.taken done.given done.order done.answer) }
 {
     match start_both(rt, options, alloc, ends, reader, writer) {
         Ok(workers) => Ok(serve_between(rt, alloc, workers, application, policy)),
