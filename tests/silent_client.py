@@ -1,8 +1,7 @@
 #!/usr/bin/env python3
 """Clients that break the rules of a session or end it, and then stay connected and send nothing. On one thread, in threads and with jobs the
 server ends at once and reports why, also at an `exit` that is spelled oddly, and where a header part gives a length that no memory holds. Over
-a socket the next client is served while they stay, and the
-server keeps nothing for them. A client that never sends anything is dropped.
+a socket the next client is served while they stay, and the server keeps nothing for them. A client that never sends anything is dropped.
 
 It ends in status 1 at the first difference.
 """
