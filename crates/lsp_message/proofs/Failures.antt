@@ -16,15 +16,12 @@ use Rattle.std.specs.Prelude.{if◌then◌else◌}
 use Rattle.std.specs.Result.{result_err}
 use Rattle.std.specs.Str.{is_utf8}
 use Rattle.lsp_message.specs.Frame.{no_message, tree_means, body_means}
-use Rattle.lsp_message.specs.HeaderPart.{at_last_line}
 use Rattle.lsp_message.specs.Meaning.{meaning}
 use Rattle.lsp_message.specs.Message.{Message}
 use Rattle.lsp_message.specs.ReadingSteps.{Decodes}
-use Rattle.lsp_message.specs.Told.{Parts, Told}
+use Rattle.lsp_message.specs.Told.{Parts}
 use Rattle.lsp_message.proofs.Told.{concat-one}
-use Rattle.lsp_message.specs.ToldSteps.{noted, FailsInRoom, ReadsLine, Spends}
-use Rattle.lsp_message.specs.declared.frame.header.HeaderLine.{HeaderLine}
-use Rattle.lsp_message.specs.declared.frame.header.HeaderLine.TheVariants.{Blank}
+use Rattle.lsp_message.specs.FrameLooks.{noted}
 use Rattle.lsp_message.specs.declared.frame.ReadFault.{ReadFault}
 use Rattle.lsp_message.specs.declared.frame.ReadFault.TheVariants.{Input, HeaderTooLong, BodyNotText}
 use Rattle.lsp_message.specs.declared.frame.byte_trace.ByteTrace.{ByteTrace}
@@ -87,11 +84,6 @@ fails_otherwise fault a b none (parts, kinds, taken, failed, tried) = (parts, ki
     at HeaderTooLong none = tt
     at fault none = tried
 
--- a header part above its bound
-pub fails_above : (fault : Option ReadFault) (a b : ByteTrace) → ReaderFails fault a b
-    → ReaderFails (Some HeaderTooLong) a b
-fails_above fault a b (parts, kinds, taken, failed, fits) = (parts, kinds, taken, failed, tt)
-
 -- ---- calls that follow one another
 
 pub both_for : (fault : Option ReadFault) (m n : ℕ) (ks ls : Kinds) → AreInterrupted ks → FailsFor fault n ls
@@ -150,48 +142,7 @@ gave_up a b many fails =
       inr (refl, fails.4, omega (arith, many, size)),
     )
 
--- ---- in a room for bytes
-
-pub room_after : (n : ℕ) (fault : Option ReadFault) (a b c : ByteTrace) → ReaderFails None a b
-    → FailsInRoom n fault b c → FailsInRoom n fault a c
-room_after n fault a b c first second = ⊎_elim
-    (λ fails. inl (fails_after fault a b c first fails))
-    (λ full. inr (full.0, full.1, fails_after None a b c first full.2))
-    second
-
--- where there is an answer
-pub room_left : (n : ℕ) (a b : ByteTrace) → FailsInRoom n None a b → ReaderFails None a b
-room_left n a b fails = ⊎_elim (λ fails. fails) (λ full. absurd (cc (full.1))) fails
-
--- a header part above its bound
-pub room_above : (n : ℕ) (fault : Option ReadFault) (a b : ByteTrace) → FailsInRoom n fault a b
-    → ReaderFails (Some HeaderTooLong) a b
-room_above n fault a b fails = ⊎_elim (λ fails. fails_above fault a b fails) (λ full. fails_above None a b full.2) fails
-
--- if no room is left only of 2^64 - 1 bytes
-pub room_kept : (all n : ℕ) (fault : Option ReadFault) (a b : ByteTrace) → (n ≡ 0 → all ≡ 2 ^ 64 - 1)
-    → Spends a.parts b.parts all n → FailsInRoom n fault a b → ReaderFails fault a b
-room_kept all n fault a b large spent fails = ⊎_elim
-    (λ fails. fails)
-    (λ full. subst (λ f. ReaderFails f a b) (sym full.1) (gave_up a b (many full.0 (more full.2)) full.2))
-    fails
-  where
-    more : ReaderFails None a b → length a.failed ≤ length b.failed
-    more (parts, kinds, taken, failed, fits) = omega (arith, ap length failed, length-append a.failed kinds)
-
-    many : n ≡ 0 → length a.failed ≤ length b.failed → noted a + (2 ^ 64 - 1) ≤ noted b
-    many none more = omega (arith, none, large none, more, spent)
-
 -- ---- what a trace grows by
-
-pub counts_failure : (kind : ErrorKind) (a b : ByteTrace) → b.parts ≡ a.parts → b.failed ≡ a.failed ++ kind ∷ []
-    → noted a < noted b
-counts_failure kind a b kept failed = omega (
-  arith,
-  ap (λ ps. length (concat ps)) kept,
-  ap length failed,
-  length-append a.failed (kind ∷ []),
-)
 
 pub counts_parts : (parts : Parts) (a b : ByteTrace) → b.parts ≡ a.parts ++ parts → length a.failed ≤ length b.failed
     → 0 < length (concat parts) → noted a < noted b
@@ -199,23 +150,6 @@ counts_parts parts a b taken more some =
     let bytes = ap (λ ps. length (concat ps)) taken ∙ ap length (concat-append a.parts parts)
     ∙ length-append (concat a.parts) (concat parts) in
     omega (arith, bytes, more, some)
-
--- a line has a byte
-pub counts_line : (line : HeaderLine) (fault : Option ReadFault) (a b : ByteTrace) (t u : Option (List ℕ))
-    → Told (ReadsLine (Ok (Some line))) a.parts b.parts t u → ReaderFails fault a b → noted a < noted b
-counts_line line fault a b t u (parts, takes, (good, feed)) (ps, kinds, taken, failed, fits) =
-    let kinds_kept = ap length failed ∙ length-append a.failed kinds in
-    counts_parts parts a b takes.added (omega (arith, kinds_kept)) (omega (
-      arith,
-      ap length feed.2,
-      length-append feed.0 (10 ∷ []),
-    ))
-
--- the length that the last line gives, or none
-pub fails_at_blank : (given : Option ℕ) (a b : ByteTrace) → ReaderFails None a b
-    → ReaderFails (result_err (at_last_line given (Ok Blank))) a b
-fails_at_blank None a b fails = fails
-fails_at_blank (Some n) a b fails = fails
 
 -- one part
 pub some_in : (part : List ℕ) → (length part ≡ 0 → ⊥) → 0 < length (concat (part ∷ []))

@@ -6,33 +6,32 @@ use Rattle.std.proofs.lemmas.Bool.{ltb-true}
 use Rattle.std.specs.List.{ends_with}
 use Rattle.std.specs.Option.{ok_or}
 use Rattle.std.specs.Str.{is_utf8, all_ascii_digits}
-use Rattle.std.specs.declared.io.ErrorKind.{ErrorKind}
 use Rattle.std.specs.Str.Parse.{without_leading_plus, digits_value}
 use Rattle.lsp_message.specs.Limits.{most_content}
 use Rattle.lsp_message.specs.HeaderPart.{number, name_and_value, same_name, field, parted, header_text, header_line}
 use Rattle.lsp_message.specs.HeaderPart.{fields, after_fields, length_in, or_else, content_length, at_last_line}
 use Rattle.lsp_message.specs.HeaderPart.{header_end, header_of, lines}
 use Rattle.lsp_message.specs.declared.frame.ReadFault.{ReadFault}
-use Rattle.lsp_message.specs.declared.frame.ReadFault.TheVariants.{Input, LineNotText, LineEnd, NoSeparator, BadLength}
+use Rattle.lsp_message.specs.declared.frame.ReadFault.TheVariants.{LineNotText, LineEnd, NoSeparator, BadLength}
 use Rattle.lsp_message.specs.declared.frame.ReadFault.TheVariants.{Memory, TooLong}
 use Rattle.lsp_message.specs.declared.frame.header.HeaderLine.{HeaderLine}
 use Rattle.lsp_message.specs.declared.frame.header.HeaderLine.TheVariants.{Blank, Length, Other}
 
 -- a fault of a line
-abbrev IsOfLine : ReadFault → Type 0
+abbrev pub IsOfLine : ReadFault → Type 0
 IsOfLine LineNotText = Unit {0}
 IsOfLine LineEnd = Unit {0}
 IsOfLine NoSeparator = Unit {0}
 IsOfLine BadLength = Unit {0}
 IsOfLine fault = ⊥
 
-abbrev IsKnownLine : Result HeaderLine ReadFault → Type 0
+abbrev pub IsKnownLine : Result HeaderLine ReadFault → Type 0
 IsKnownLine (Ok Blank) = Unit {0}
 IsKnownLine (Ok (Length n)) = n ≤ most_content
 IsKnownLine (Ok Other) = Unit {0}
 IsKnownLine (Err fault) = IsOfLine fault
 
-abbrev IsKnownLength : Option ℕ → Type 0
+abbrev pub IsKnownLength : Option ℕ → Type 0
 IsKnownLength None = Unit {0}
 IsKnownLength (Some n) = n ≤ most_content
 
@@ -65,7 +64,7 @@ text_known (c ∷ text) = at (name_and_value (c ∷ text))
     at None = tt
     at (Some f) = field_known f.0 f.1
 
-line_known : (line : List ℕ) → IsKnownLine (header_line line)
+pub line_known : (line : List ℕ) → IsKnownLine (header_line line)
 line_known line = at (not (is_utf8 line)) (not (ends_with nat_eq line (13 ∷ 10 ∷ [])))
   where
     at : (s t : Bool) → IsKnownLine (cond s (Err LineNotText) (cond t (Err LineEnd) (header_text (take (length line - 2)
@@ -77,10 +76,6 @@ line_known line = at (not (is_utf8 line)) (not (ends_with nat_eq line (13 ∷ 10
 -- the test of a line takes no memory
 pub line_tested : (line : List ℕ) → header_line line ≢ Err Memory
 line_tested line is = subst IsKnownLine is (line_known line)
-
--- nor does it read
-pub line_is_no_input : (line : List ℕ) (kind : ErrorKind) → header_line line ≢ Err (Input kind)
-line_is_no_input line kind is = subst IsKnownLine is (line_known line)
 
 lengths_known : (ls : List (List ℕ)) → IsKnownLength (content_length ls)
 lengths_known [] = tt

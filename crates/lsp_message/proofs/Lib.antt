@@ -4,8 +4,14 @@ pub mod Failures
 pub mod Choices
 pub mod ContentParts
 pub mod Contents
+pub mod FramePlaces
+pub mod FrameFaults
+pub mod FrameInputs
+pub mod FrameLooks
+pub mod HeaderLines
 pub mod FramesBack
 pub mod FrontOfFrame
+mod FrontNext
 pub mod FrontSteps
 pub mod HeaderSteps
 pub mod Ids
@@ -27,7 +33,6 @@ mod Suffixes
 pub mod Texts
 pub mod Told
 mod ToldHeaders
-mod ToldLines
 mod ToldWrites
 mod TreeLaws
 mod Unique

@@ -6,6 +6,9 @@ pub mod Failures
 pub mod Faults
 pub mod Floats
 pub mod Frame
+pub mod FrameInput
+pub mod FrameLooks
+pub mod FramePlace
 pub mod Front
 pub mod Gathering
 pub mod HeaderPart
@@ -26,7 +29,6 @@ pub mod RequestId
 pub mod ResultText
 pub mod Text
 pub mod Told
-pub mod ToldSteps
 pub mod Tree
 pub mod View
 pub mod Written

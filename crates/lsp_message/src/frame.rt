@@ -10,14 +10,11 @@ use std::error::Error;
 use std::io::ErrorKind;
 use std::{fmt, io};
 
-pub(crate) mod body;
 pub(crate) mod byte_trace;
 pub(crate) mod content;
 pub(crate) mod header;
+pub(crate) mod input;
 pub(crate) mod limits;
-pub(crate) mod line;
-pub(crate) mod place;
-pub(crate) mod read;
 pub(crate) mod scan;
 pub(crate) mod write;
 
@@ -29,7 +26,7 @@ pub(crate) mod write;
 /// All faults except `Input` and `Memory` are facts about the bytes. The bytes after those at fault stay unread.
 #[derive(Clone, Copy, Debug, PartialEq, Eq)]
 pub enum ReadFault {
-    /// 1: the reader failed in this call, with this kind. Or the header part has 2^64 - 1 lines or bytes (kind
+    /// 1: the reader failed in this call, with this kind. Or the call looked at the reader 2^64 - 1 times (kind
     /// `Other`).
     Input(ErrorKind),
     /// 2: a header line is not UTF-8.

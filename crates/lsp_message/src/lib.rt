@@ -10,7 +10,7 @@ mod msg;
 pub use error::ExtractError;
 pub use frame::byte_trace::ByteTrace;
 pub use frame::content::{read_content_traced, read_content_within};
-pub use frame::header::{HeaderLine, header_line};
+pub use frame::input::{Frame, FrameInput};
 pub use frame::limits::Limits;
 pub use frame::scan::front;
 pub use frame::write::{write_frames, write_frames_traced};

@@ -9,11 +9,10 @@ pub mod Driver
 pub mod Driving
 pub mod Failing
 pub mod Forms
-pub mod FramePlaces
+pub mod FrameReads
 pub mod Got
 pub mod Handing
 pub mod Handshake
-pub mod HeaderLines
 pub mod Histories
 pub mod Incoming
 pub mod Knowing
@@ -47,5 +46,6 @@ pub mod TransportInOrder
 pub mod TellsBytes
 pub mod Tellings
 pub mod ToldEvents
+pub mod Unread
 pub mod Unwoken
 pub mod Waiting

@@ -1,18 +1,15 @@
 -- What ended the messages of a session between bytes.
-use Rattle.std.proofs.Common.{◌≡◌, ◌≢◌, ◌⊎◌, refl, sym, subst, ◌∙◌, inl, inr, ℕ, List, [], Option, Some, None}
-use Rattle.std.proofs.Common.{append-nil, ap, take, drop, length, ◌+◌, ◌-◌, IsSomeAnd, Err}
-use Rattle.std.proofs.lemmas.List.{drop-drop}
+use Rattle.std.proofs.Common.{◌≡◌, ◌≢◌, refl, sym, subst, ◌∙◌, inl, inr, ℕ, List, [], Option, Some, None}
+use Rattle.std.proofs.Common.{append-nil, IsSomeAnd, Err}
 use Rattle.lsp_message.specs.Frame.{reading_within}
 use Rattle.lsp_message.specs.Message.{Message}
 use Rattle.lsp_message.specs.declared.frame.ReadFault.{ReadFault}
 use Rattle.lsp_message.specs.declared.frame.ReadFault.TheVariants.{Memory}
 use Rattle.lsp_message.specs.declared.frame.limits.Limits.{Limits}
 use Rattle.lsp_session.proofs.ByteHistory.{over_stays}
-use Rattle.lsp_session.proofs.FramePlaces.{tail_of}
-use Rattle.lsp_session.specs.FramePlace.{RanOut}
-use Rattle.lsp_session.specs.ByteSession.{AwaitsMore, BeginsWithFault, Comes, IsEndOf, Standing, StopsOtherwise}
+use Rattle.lsp_session.specs.ByteSession.{BeginsWithFault, Comes, IsEndOf, Standing, StopsOtherwise}
 use Rattle.lsp_session.specs.ByteSession.{WritesTurn}
-use Rattle.lsp_session.specs.ByteSessions.{standing, EndIsKnown, EndsAtFrame, KnowsEnd}
+use Rattle.lsp_session.specs.ByteSessions.{standing, unread, EndIsKnown, EndsAtFrame, KnowsEnd}
 use Rattle.lsp_session.specs.Event.{Event, message, timeout, closed, woken}
 use Rattle.lsp_session.specs.Machine.{Advances, StandsIn}
 use Rattle.lsp_session.specs.Session.{Behavior, Phase, starting, replied, serving, asked, broken, ended}
@@ -20,7 +17,6 @@ use Rattle.lsp_session.specs.TransportTurn.{IsOver}
 use Rattle.lsp_session.specs.declared.loops.ReadEnd.{ReadEnd}
 use Rattle.lsp_session.specs.declared.loops.ReadEnd.TheVariants.{Fault as AtFault}
 use Rattle.lsp_session.specs.declared.loops.byte_session.ByteSession.{ByteSession}
-use Rattle.lsp_session.specs.declared.loops.frame_input.FrameInput.{FrameInput}
 use Rattle.lsp_session.specs.declared.loops.machine.Stage.{Stage}
 use Rattle.lsp_session.specs.declared.loops.machine.Stage.TheVariants.{Starting, Replied, Serving, Asked, Ended}
 use Rattle.lsp_session.specs.declared.loops.session_outcome.StopReason.TheVariants.{Decided, NoMore, TimedOut}
@@ -89,13 +85,14 @@ module _ {S : Type 0} (may : Behavior S) where
 
   -- an event without bytes keeps it so
   pub knows_still : (old new : ByteSession S) (event : Event) → event ≢ closed
-      → Comes {S = S} may (standing old) event (standing new) → new.input ≡ old.input → new.end ≡ old.end
-      → KnowsEnd old → KnowsEnd new
-  knows_still old new event other comes same end known =
-      subst (λ (e : Option ReadEnd). EndIsKnown new.input.limits new.input.bytes.items new.core.stage e) (sym end)
-      (subst (λ (i : FrameInput). EndIsKnown i.limits i.bytes.items new.core.stage old.end) (sym same)
-      (known_stays old.input.limits old.most_pending old.input.bytes.items (standing old) (standing new) event old.end
-      other comes known))
+      → Comes {S = S} may (standing old) event (standing new) → new.input.limits ≡ old.input.limits
+      → unread new ≡ unread old → new.end ≡ old.end → KnowsEnd old → KnowsEnd new
+  knows_still old new event other comes limits same end known =
+      subst (λ (e : Option ReadEnd). EndIsKnown new.input.limits (unread new) new.core.stage e) (sym end)
+      (subst (λ (l : Limits). EndIsKnown l (unread new) new.core.stage old.end) (sym limits)
+      (subst (λ (l : List ℕ). EndIsKnown old.input.limits l new.core.stage old.end) (sym same)
+      (known_stays old.input.limits old.most_pending (unread old) (standing old) (standing new) event old.end other
+      comes known)))
 
 -- bytes came to a session that has not ended
 pub known_open : (limits limits' : Limits) (text text' : List ℕ) (stage : Stage) (end : Option ReadEnd)
@@ -104,22 +101,22 @@ known_open limits limits' text text' stage None waits known = open_stops stage w
 known_open limits limits' text text' stage (Some end) waits known = absurd (waits known.0)
 
 -- the messages ended so
-pub known_now : {S : Type 0} (new : ByteSession S) (end : ReadEnd) (input : FrameInput) → new.end ≡ Some end
-    → new.input ≡ input → IsOver new.core.stage → IsEndOf input.limits input.bytes.items end
-    ⊎ ((end ≡ AtFault Memory) × AwaitsMore input.limits input.bytes.items) → KnowsEnd new
-known_now new end input is same over of =
-    subst (λ (e : Option ReadEnd). EndIsKnown new.input.limits new.input.bytes.items new.core.stage e) (sym is) (
+pub known_now : {S : Type 0} (new : ByteSession S) (end : ReadEnd) (limits : Limits) (text : List ℕ)
+    → new.end ≡ Some end → new.input.limits ≡ limits → unread new ≡ text → IsOver new.core.stage
+    → IsEndOf limits text end → KnowsEnd new
+known_now new end limits text is same bytes over of =
+    subst (λ (e : Option ReadEnd). EndIsKnown new.input.limits (unread new) new.core.stage e) (sym is) (
       over,
-      subst (λ (i : FrameInput). IsEndOf i.limits i.bytes.items end
-          ⊎ ((end ≡ AtFault Memory) × AwaitsMore i.limits i.bytes.items)) (sym same) of,
+      subst (λ (l : Limits). IsEndOf l (unread new) end) (sym same) (subst (λ (t : List ℕ). IsEndOf limits t end)
+          (sym bytes) of),
     )
 
 -- a fault with which the bytes begin
 pub begun_end : (limits : Limits) (text : List ℕ) (fault : ReadFault) → BeginsWithFault limits text fault
-    → IsEndOf limits text (AtFault fault) ⊎ ((AtFault fault ≡ AtFault Memory) × AwaitsMore limits text)
-begun_end limits text Memory begins = inr (refl, begins)
-begun_end limits text fault begins = inl (subst (λ l. reading_within limits l
-    ≡ record { outcome = Err fault; rest = [] }) (append-nil text) (begins []))
+    → IsEndOf limits text (AtFault fault)
+begun_end limits text Memory begins = begins
+begun_end limits text fault begins = subst (λ l. reading_within limits l ≡ record { outcome = Err fault; rest = [] })
+    (append-nil text) (begins [])
 
 -- the input ended so
 pub end_now : (limits : Limits) (text : List ℕ) (end : ReadEnd) (now : Option ReadEnd) → now ≡ Some end
@@ -127,9 +124,8 @@ pub end_now : (limits : Limits) (text : List ℕ) (end : ReadEnd) (now : Option 
 end_now limits text end now is of = subst (λ (e : Option ReadEnd). IsSomeAnd e (IsEndOf limits text)) (sym is) of
 
 -- no byte is unread where the session has no frame begun
-pub ends_at_frame : {S : Type 0} (new : ByteSession S) (input : FrameInput) → new.input ≡ input → input.bytes.items ≡ []
-    → EndsAtFrame new
-ends_at_frame new input same none = λ over unended. subst (λ (i : FrameInput). i.bytes.items ≡ []) (sym same) none
+pub ends_at_frame : {S : Type 0} (new : ByteSession S) → unread new ≡ [] → EndsAtFrame new
+ends_at_frame new none = λ over unended. none
 
 -- where the messages ended with this, something else is to be shown
 pub ends_otherwise : {S : Type 0} (new : ByteSession S) (end : ReadEnd) → new.end ≡ Some end → EndsAtFrame new
@@ -137,10 +133,3 @@ ends_otherwise new end is = λ over unended. absurd (never (sym unended ∙ is))
   where
     never : None ≡ Some end → ⊥
     never e = cc (e)
-
--- memory ran out at a later part of a piece
-pub ran_out_more : (limits limits' : Limits) (text bytes : List ℕ) (n r : ℕ) → limits' ≡ limits
-    → RanOut limits' text (drop r (take (length bytes - n) (drop n bytes))) → RanOut limits text (drop (n + r) bytes)
-ran_out_more limits limits' text bytes n r same out =
-    subst (λ (l : Limits). RanOut l text (drop (n + r) bytes)) same (subst (λ (l : List ℕ). RanOut limits' text l)
-    (ap (drop r) (tail_of n bytes) ∙ drop-drop r n bytes) out)

@@ -253,7 +253,7 @@ module _ (others : Type 0) {L : Type 0} (passes : L → ReadFault → L → Type
           reads = rw (unended', brought.left) at last.2.0;
         }
 
-    -- what a session read, what was left of it, and what the policy policy
+    -- what a session read, what was left of it, and what the policy is then
     abbrev pub Reached : List (Option Message) → Stop → (List ℕ × L → Type 0) → Type 0
     Reached came stop Left = (at : List ℕ × L) × ReadsFrames others passes limit (text, old.1) came at
         × HearsLast passes limit stop at new.1 × Left at

@@ -1,15 +1,17 @@
 -- Runs of a session between bytes and bytes that no bytes bring: a wake or a timeout that nobody reported, an end of
 -- the input that nobody reported, a fault that the bytes do not have, and bytes that were taken too many.
 use Rattle.lsp_message.specs.Frame.{reading_within}
+use Rattle.lsp_message.specs.FrameInput.{AwaitsMore}
 use Rattle.lsp_message.specs.Message.{Message}
+use Rattle.lsp_message.proofs.FrameInputs.{end_at_start, start_header}
 use Rattle.lsp_message.specs.Reading.{Reading}
 use Rattle.lsp_message.specs.declared.frame.ReadFault.{ReadFault}
 use Rattle.lsp_message.specs.declared.frame.ReadFault.TheVariants.{Memory}
 use Rattle.lsp_message.specs.declared.frame.limits.Limits.{Limits}
-use Rattle.lsp_session.proofs.FramePlaces.{at_start, end_of_line}
+use Rattle.lsp_session.proofs.FrameReads.{awaits_within, ends_here}
 use Rattle.lsp_session.proofs.MessagesEnd.{comes_stops}
 use Rattle.lsp_session.specs.ByteSession.{Standing, Exchanged, Exchanges, Goes, Answers, IsFrameRead, reads_of}
-use Rattle.lsp_session.specs.ByteSession.{AwaitsMore, BeginsWithFault, BringMessages, IsEndOf, IsMessage, IsReadFor}
+use Rattle.lsp_session.specs.ByteSession.{BeginsWithFault, BringMessages, IsEndOf, IsMessage, IsReadFor}
 use Rattle.lsp_session.specs.ByteSession.{StopsOtherwise}
 use Rattle.lsp_session.specs.ByteSessions.{EndIsKnown}
 use Rattle.lsp_session.specs.Event.{Event, message, timeout, closed, woken}
@@ -103,7 +105,8 @@ message_of woken is = absurd is
 -- a message is no empty text
 never_empty : (limits : Limits) (m : Message) → IsFrameRead limits m [] → ⊥
 never_empty limits m is =
-    none_message _ m (outcome_of (end_of_line limits [] 0 None (at_start limits [] refl) refl)) (outcome_of (is []))
+    none_message _ m (outcome_of (ends_here limits [] (end_at_start limits [] [] limits.header None
+    (start_header limits [] [] refl refl) refl))) (outcome_of (is []))
   where
     none_message : (a : Result (Option Message) ReadFault) (m : Message) → a ≡ Ok None → a ≡ Ok (Some m) → ⊥
     none_message (Ok found) m none some = cc (none, some)
@@ -236,25 +239,23 @@ module _ (limits : Limits) (most : ℕ) {S : Type 0} (may : Behavior S) where
 -- a frame that is cut off is reported as the end of the input
 pub takes_a_cut_frame_for_the_end : (limits : Limits) (text : List ℕ) (stage : Stage) (fault : ReadFault)
     → (reading_within limits text).outcome ≡ Err fault → EndIsKnown limits text stage (Some AtEnd) → ⊥
-takes_a_cut_frame_for_the_end limits text stage fault has known = elim known.1 [
-  | inl is ↦ no_fault (sym has ∙ outcome_of is)
-  | inr e ↦ cc (e.0)
-]
+takes_a_cut_frame_for_the_end limits text stage fault has known = no_fault (sym has ∙ outcome_of known.1)
 
 -- the end of the input is reported as a fault
 pub takes_the_end_for_a_fault : (limits : Limits) (text : List ℕ) (stage : Stage) (fault : ReadFault)
     → fault ≢ Memory → (reading_within limits text).outcome ≡ Ok None
     → EndIsKnown limits text stage (Some (AtFault fault)) → ⊥
-takes_the_end_for_a_fault limits text stage fault bytes has known = elim known.1 [
-  | inl is ↦ no_fault (sym (outcome_of is) ∙ has)
-  | inr e ↦ bytes (one_end e.0)
-]
+takes_the_end_for_a_fault limits text stage fault bytes has known = at fault bytes known.1
+  where
+    at : (fault : ReadFault) → fault ≢ Memory → IsEndOf limits text (AtFault fault) → ⊥
+    at Memory bytes is = bytes refl
+    at fault bytes is = no_fault (sym (outcome_of is) ∙ has)
 
--- a session that waits for more took bytes behind the first answer of a reader
-pub takes_bytes_behind_an_answer : (limits : Limits) (text : List ℕ) (byte : ℕ) (left : List ℕ)
-    → (reading_within limits text).rest ≡ byte ∷ left → AwaitsMore limits text → ⊥
-takes_bytes_behind_an_answer limits text byte left some awaits =
-    let end = awaits.within [] in
+-- all bytes of a text are taken for the first answer, and some are left behind it
+behind : (limits : Limits) (text : List ℕ) (byte : ℕ) (left : List ℕ) → (reading_within limits text).rest ≡ byte ∷ left
+    → ((rest : List ℕ) → (read : List ℕ) × (rest ≡ read ++ (reading_within limits (text ++ rest)).rest)) → ⊥
+behind limits text byte left some within =
+    let end = within [] in
     never end.0 (end.1 ∙ ap (λ l. end.0 ++ (reading_within limits l).rest) (append-nil text)
     ∙ ap (λ l. end.0 ++ l) some)
   where
@@ -262,15 +263,19 @@ takes_bytes_behind_an_answer limits text byte left some awaits =
     never [] e = cc (e)
     never (b ∷ bs) e = cc (e)
 
+-- a session that waits for more took bytes behind the first answer of a reader
+pub takes_bytes_behind_an_answer : (limits : Limits) (text : List ℕ) (byte : ℕ) (left : List ℕ)
+    → (reading_within limits text).rest ≡ byte ∷ left → AwaitsMore limits text → ⊥
+takes_bytes_behind_an_answer limits text byte left some awaits =
+    behind limits text byte left some (awaits_within limits text awaits)
+
 -- bytes are left at what is reported as the end
 pub leaves_bytes_at_the_end : (limits : Limits) (text : List ℕ) (stage : Stage) (end : ReadEnd) (byte : ℕ)
     (left : List ℕ) → (reading_within limits text).rest ≡ byte ∷ left → EndIsKnown limits text stage (Some end) → ⊥
-leaves_bytes_at_the_end limits text stage end byte left some known = elim known.1 [
-  | inl is ↦ none_left (reading_within limits text) byte left some (all end is)
-  | inr e ↦ takes_bytes_behind_an_answer limits text byte left some e.1
-]
+leaves_bytes_at_the_end limits text stage end byte left some known = at end known.1
   where
-    all : (end : ReadEnd) → IsEndOf limits text end → (reading_within limits text).rest ≡ []
-    all AtEnd is = rest_of is
-    all (AtFault fault) is = rest_of is
-    all end is = absurd is
+    at : (end : ReadEnd) → IsEndOf limits text end → ⊥
+    at AtEnd is = none_left (reading_within limits text) byte left some (rest_of is)
+    at (AtFault Memory) is = behind limits text byte left some is.within
+    at (AtFault fault) is = none_left (reading_within limits text) byte left some (rest_of is)
+    at end is = is

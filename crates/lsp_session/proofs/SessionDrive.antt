@@ -12,6 +12,7 @@ use Rattle.std.specs.declared.io.ErrorKind.TheVariants.{Other}
 use Rattle.serde_json.specs.declared.value.Value.TheVariants.{Null}
 use Rattle.lsp_message.proofs.Contents.{frame_unread}
 use Rattle.lsp_message.specs.Frame.{Begins, body_means, reading_within}
+use Rattle.lsp_message.specs.FrameInput.{AwaitsMore}
 use Rattle.lsp_message.specs.Gathering.{IsFromReader}
 use Rattle.lsp_message.specs.Id.{number}
 use Rattle.lsp_message.specs.Message.{Message}
@@ -24,10 +25,11 @@ use Rattle.lsp_message.specs.declared.frame.WriteFault.TheVariants.{Output, Memo
 use Rattle.lsp_message.specs.declared.frame.limits.Limits.{Limits}
 use Rattle.lsp_message.specs.declared.msg.Message.TheVariants as msg
 use Rattle.lsp_session.proofs.ByteHistory.{awaits_end, goes_same}
+use Rattle.lsp_session.proofs.FrameReads.{awaits_within}
 use Rattle.lsp_session.proofs.PendingFrames.{frames_then}
 use Rattle.lsp_session.proofs.Ran.{came_both, no_one, phase_unbroken, row, sends_both, IsSound}
 use Rattle.lsp_session.proofs.SessionGives.{closed_ends, decided_ends}
-use Rattle.lsp_session.specs.ByteSession.{Answers, AwaitsMore, BeginsWithFault, BringMessages, Comes, Exchanged}
+use Rattle.lsp_session.specs.ByteSession.{Answers, BeginsWithFault, BringMessages, Comes, Exchanged}
 use Rattle.lsp_session.specs.ByteSession.{IsEndOf, IsFrameRead, IsMessage, IsReadFor, RunsOut, Standing, WritesTurn}
 use Rattle.lsp_session.specs.ByteSession.{Exchanges, reads_of}
 use Rattle.lsp_session.specs.ByteSessions.{standing, unread, EndIsKnown, HasServed, KeepsBounds, KnowsEnd}
@@ -527,6 +529,11 @@ module _ (limits : Limits) {S : Type 0} (may : Behavior S) (s : S) (text : List 
     ),
     (at, sym (append-nil at)),
   )
+  end_reads at (AtFault NoMemoryToRead) is = (
+    let read = is.within [] in
+        (read.0, ap Some (read.1 ∙ ap (λ l. read.0 ++ (reading_within limits l).rest) (append-nil at))),
+    (at, sym (append-nil at)),
+  )
   end_reads at (AtFault fault) is = (fault_at fault is, (at, sym (append-nil at)))
     where
       fault_at : (fault : ReadFault) → reading_within limits at ≡ record { outcome = Err fault; rest = [] }
@@ -603,7 +610,7 @@ module _ (limits : Limits) {S : Type 0} (may : Behavior S) (s : S) (text : List 
   read_fails stage s1 u rest now waits awaits run kind = by stage waits run
     where
       within : StopsWithin (Some rest) (reading_within limits (u ++ rest))
-      within = let read = awaits.within rest in (read.0, ap Some read.1)
+      within = let read = awaits_within limits u awaits rest in (read.0, ap Some read.1)
 
       by : (stage : Stage) → (IsOver stage → ⊥) → Runs (phase_of stage) s1 (u ++ rest) now
           → Gave s1 rest now (Err (Read (Input kind)))

@@ -1,23 +1,20 @@
 -- A session between bytes and bytes (LSP 3.17, "Base Protocol" and "Server lifecycle"): what it took, and what it has
 -- to send.
 use Rattle.std.specs.List.{FoldsTo}
-use Rattle.std.specs.Prelude.{◌≡◌, ◌≢◌, ◌⊎◌, ◌≤◌, ◌++◌, ◌∷◌, ℕ, List, [], length, Option, Some, None, Result, Ok, Err}
+use Rattle.std.specs.Prelude.{◌≡◌, ◌≢◌, ◌⊎◌, ◌≤◌, ◌++◌, ◌∷◌, ℕ, List, [], length, Option, Some, None, Ok, Err}
 use Rattle.lsp_message.specs.Frame.{Begins, reading_within}
-use Rattle.lsp_message.specs.Front.{front_of}
+use Rattle.lsp_message.specs.FrameInput.{IsFrameRead as IsContentRead, RanOut as RanOutBefore}
 use Rattle.lsp_message.specs.Message.{Message}
 use Rattle.lsp_message.specs.Written.{AreFramesOf}
-use Rattle.lsp_message.specs.declared.frame.Front.TheVariants.{More}
 use Rattle.lsp_message.specs.declared.frame.ReadFault.{ReadFault}
-use Rattle.lsp_message.specs.declared.frame.ReadFault.TheVariants.{Memory, HeaderTooLong, TooLong}
+use Rattle.lsp_message.specs.declared.frame.ReadFault.TheVariants.{Memory}
 use Rattle.lsp_message.specs.declared.frame.limits.Limits.{Limits}
 use Rattle.lsp_session.specs.Event.{Event, message, closed}
-use Rattle.lsp_session.specs.Incoming.{incoming_view}
 use Rattle.lsp_session.specs.Machine.{Advances, IsAwaited}
 use Rattle.lsp_session.specs.ProtocolError.{out_of_memory}
 use Rattle.lsp_session.specs.Session.{Behavior}
 use Rattle.lsp_session.specs.SessionOutcome.{served_by}
 use Rattle.lsp_session.specs.declared.loops.ReadEnd.{ReadEnd}
-use Rattle.lsp_session.specs.declared.loops.incoming.Incoming.{Incoming}
 use Rattle.lsp_session.specs.declared.loops.ReadEnd.TheVariants.{End as AtEnd, Fault as AtFault}
 use Rattle.lsp_session.specs.declared.loops.machine.Stage.{Stage}
 use Rattle.lsp_session.specs.declared.loops.machine.Stage.TheVariants.{Ended}
@@ -27,31 +24,25 @@ use Rattle.lsp_session.specs.declared.loops.session_outcome.StopReason.TheVarian
 abbrev pub IsFrameRead : Limits → Message → List ℕ → Type 0
 IsFrameRead limits m frame = (rest : List ℕ) → Begins limits (frame ++ rest) m rest
 
--- No message is whole, and no limit is exceeded: more bytes of the first message have to come. Whatever these are, a
--- reader takes all bytes of the text for its first answer.
-pub record AwaitsMore (limits : Limits) (text : List ℕ) : Type 0 where
-  pub more : front_of text ≡ More
-  pub header_fits : (reading_within limits text).outcome ≢ Err HeaderTooLong
-  pub content_fits : (reading_within limits text).outcome ≢ Err TooLong
+-- Memory ran out at these bytes: for a line of a header part that has not ended; for the room of the content part, of
+-- which no byte was taken; or for the message of a content part that is whole. So it never runs out in the middle of a
+-- content part. Whatever follows the bytes, a reader takes all of them for its first answer.
+pub record RanOut (limits : Limits) (text : List ℕ) : Type 0 where
+  pub place : ((count : ℕ) × RanOutBefore limits text count) ⊎ ((content : List ℕ) × IsContentRead limits content text)
   pub within : (rest : List ℕ) → (read : List ℕ) × (rest ≡ read ++ (reading_within limits (text ++ rest)).rest)
 
 -- The bytes are those that a reader takes to find this fault: whatever follows them, it answers with the fault, and
--- leaves what follows. A want of memory is no fault of the bytes: more of the first message have to come.
+-- leaves what follows. A want of memory is no fault of the bytes.
 abbrev pub BeginsWithFault : Limits → List ℕ → ReadFault → Type 0
-BeginsWithFault limits text Memory = AwaitsMore limits text
+BeginsWithFault limits text Memory = RanOut limits text
 BeginsWithFault limits text fault = (more : List ℕ)
     → reading_within limits (text ++ more) ≡ record { outcome = Err fault; rest = more }
-
--- the bytes are the frame of the message, and none is left; or they stay
-abbrev pub ReadsOne : Limits → List ℕ → Result (Option Incoming) ReadFault → List ℕ → Type 0
-ReadsOne limits text (Ok (Some m)) left = IsFrameRead limits (incoming_view m) text × (left ≡ [])
-ReadsOne limits text (Ok None) left = left ≡ text
-ReadsOne limits text (Err fault) left = (left ≡ text) × BeginsWithFault limits text fault
 
 -- What a reader has where these bytes end: the end of the input, at the start of a header line, or this fault. It has
 -- taken all bytes.
 abbrev pub IsEndOf : Limits → List ℕ → ReadEnd → Type 0
 IsEndOf limits text AtEnd = reading_within limits text ≡ record { outcome = Ok None; rest = [] }
+IsEndOf limits text (AtFault Memory) = RanOut limits text
 IsEndOf limits text (AtFault fault) = reading_within limits text ≡ record { outcome = Err fault; rest = [] }
 IsEndOf limits text end = ⊥
 

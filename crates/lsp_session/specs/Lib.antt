@@ -12,7 +12,6 @@ pub mod Event
 pub mod SkipAndCount
 pub mod Finish
 pub mod FrameBoxes
-pub mod FramePlace
 pub mod HandlerService
 pub mod HandlerSession
 pub mod Incoming

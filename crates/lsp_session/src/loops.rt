@@ -16,7 +16,6 @@ mod bad_content_policy;
 mod both_ends;
 mod byte_session;
 mod client_streams;
-mod frame_input;
 mod frame_outbox;
 mod handler;
 mod handler_application;

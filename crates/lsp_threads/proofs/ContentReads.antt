@@ -6,10 +6,12 @@ use Rattle.std.proofs.lemmas.List.{map-append}
 use Rattle.std.specs.Io.KnownBytes.{Keeps}
 use Rattle.std.specs.List.{concat, FoldsTo}
 use Rattle.lsp_message.proofs.ContentParts.{end_outcome, fault_outcome}
+use Rattle.lsp_message.proofs.FrameFaults.{content_fault, IsOfFrame}
 use Rattle.lsp_message.specs.Frame.{body_means, content_within, reading_within}
 use Rattle.lsp_message.specs.Reading.{Answers}
 use Rattle.lsp_message.specs.declared.frame.ReadFault.{ReadFault}
-use Rattle.lsp_message.specs.declared.frame.ReadFault.TheVariants.{Input, Memory as NoMemory}
+use Rattle.lsp_message.specs.declared.frame.ReadFault.TheVariants.{Batch, BodyNotText, Input, Memory as NoMemory}
+use Rattle.lsp_message.specs.declared.frame.ReadFault.TheVariants.{NoJson, NoMessage}
 use Rattle.lsp_message.specs.Message.{Message}
 use Rattle.lsp_relay.specs.Relay.{ended, Follows, has_end, IsOpen, Sending, Source}
 use Rattle.lsp_relay.proofs.Parcels.{open_push}
@@ -17,9 +19,9 @@ use Rattle.std.specs.Prelude.{OnOk, IfErr, is_ok}
 use Rattle.std.specs.declared.io.ErrorKind.TheVariants.{Other}
 use Rattle.lsp_relay.specs.declared.ends.Parcel.{Parcel}
 use Rattle.lsp_relay.specs.declared.ends.Parcel.TheVariants as parcel
+use Rattle.lsp_session.specs.Passing.{is_bad_content}
 use Rattle.lsp_session.specs.declared.loops.ReadEnd.{ReadEnd}
 use Rattle.lsp_session.specs.declared.loops.ReadEnd.TheVariants.{End, Fault}
-use Rattle.lsp_threads.proofs.HeaderFaults.{is_of_no_body}
 use Rattle.lsp_message.specs.Told.{Parts, Told, IsOfParts}
 use Rattle.lsp_message.specs.declared.frame.limits.Limits.{Limits}
 use Rattle.lsp_threads.proofs.Taken.{nothing_taken, told_last, told_next}
@@ -27,6 +29,14 @@ use Rattle.lsp_threads.specs.Contents.{AreContents, BeginsAny, BeginsSource, Beg
 use Rattle.lsp_threads.specs.Contents.{contents_of, Gathering, MaySend, parts_after, ReadsContents, StopsAt}
 use Rattle.lsp_threads.specs.Contents.{TellsContents, source_of}
 use Rattle.lsp_threads.specs.Passing.{OfTaken, TakenFrom}
+
+-- a fault of a frame is none of a content part that was read to its end
+of_no_body : (fault : ReadFault) → IsOfFrame fault → is_bad_content fault ≡ false
+of_no_body BodyNotText known = absurd known
+of_no_body NoJson known = absurd known
+of_no_body NoMessage known = absurd known
+of_no_body Batch known = absurd known
+of_no_body fault known = refl
 
 -- ---- content parts in parcels
 pub contents_of-append : (a b : List (Parcel Contents)) → contents_of (a ++ b) ≡ contents_of a ++ contents_of b
@@ -103,7 +113,7 @@ module _ (limit : Limits) where
   stops_fault (Input kind) at left answers = tt
   stops_fault NoMemory at left answers = tt
   stops_fault fault at left answers = (
-    is_of_no_body limit at fault answers.0,
+    of_no_body fault (content_fault limit at fault answers.0),
     (reading_within limit at).rest,
     reading_is at (Err fault) (fault_outcome
         body_means limit at fault answers.0),

@@ -9,7 +9,6 @@ pub mod FrameTextSend
 pub mod GivenInOrder
 pub mod GoesOn
 pub mod Handed
-pub mod HeaderFaults
 pub mod InThreads
 pub mod Leaving
 pub mod Order

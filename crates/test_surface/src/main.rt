@@ -4,7 +4,7 @@
 //!
 //! When run, it prints the results of some of the calls.
 //!
-//! `docs/DECISIONS.md` lists 24 forms under "Forms that were asked for in another way". In the code such a line says
+//! `docs/DECISIONS.md` lists 23 forms under "Forms that were asked for in another way". In the code such a line says
 //! `beyond`.
 #![tactic(auto)]
 

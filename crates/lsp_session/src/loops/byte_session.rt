@@ -1,26 +1,26 @@
 // A session of a server between bytes and bytes.
-ghost use Rattle.std.specs.Prelude.{◌≡◌, ◌≤◌, ◌<◌, ◌⊎◌, [], length, drop as drop_front, take, IsTrue, None, Some, IsSomeAnd};
+ghost use Rattle.std.specs.Prelude.{◌≡◌, ◌≤◌, ◌<◌, ◌⊎◌, ◌++◌, [], length, drop as drop_front, take, IsTrue, None, Some, IsSomeAnd};
+ghost use Rattle.std.specs.List.{concat};
+ghost use Rattle.lsp_message.specs.FrameInput.{AwaitsMore, IsFrameRead};
 ghost use Rattle.lsp_session.specs.ByteSession.{BeginsWithFault, Comes, Goes, IsEndOf};
 ghost use Rattle.lsp_session.specs.ByteSessions.{standing, unread, EndsAtFrame, HasServed, KeepsBounds, KnowsEnd, PausesAtFrame};
 ghost use Rattle.lsp_session.specs.Event.{closed, timeout, woken};
-ghost use Rattle.lsp_session.specs.FramePlace.{RanOut};
 ghost use Rattle.lsp_session.specs.Machine.{awaited_in, came_view, outcome_of};
 ghost use Rattle.lsp_session.specs.SessionFault.{session_answer as session_answer_spec};
 ghost use Rattle.lsp_session.specs.TransportTurn.{IsOver};
-ghost use Rattle.lsp_message.specs.declared.frame.ReadFault.TheVariants.{Memory};
 ghost use Rattle.lsp_session.specs.declared.loops.ReadEnd.TheVariants.{Fault};
 ghost use Rattle.lsp_session.specs.declared.loops.machine.Stage.TheVariants as stage;
 
 use crate::error::ProtocolError;
 use crate::loops::ReadEnd;
-use crate::loops::frame_input::FrameInput;
 use crate::loops::handler::SessionEnd;
+use crate::loops::incoming::Incoming;
 use crate::loops::machine::{Awaits, Came, SessionCore};
 use crate::loops::pending_output::PendingOutput;
 use crate::loops::service::Service;
 use crate::loops::stream_session::{SessionFault, session_answer};
 use lsp_calls::CallReader;
-use lsp_message::{Limits, ReadFault};
+use lsp_message::{ByteTrace, Frame, FrameInput, Limits, ReadFault};
 use std::alloc::Global;
 
 /// A session of a server from bytes to bytes (LSP 3.17, "Base Protocol" and "Server lifecycle"). It does no IO: the
@@ -31,11 +31,11 @@ use std::alloc::Global;
 /// its `Limits`. While more than `most_pending` bytes are to be sent, it takes no input. So it holds at most these
 /// bytes, and the output of one more event.
 ///
-/// If the service reads calls (`Service::reads_calls`), the session copies the content part of each message from
-/// `initialized` up to `shutdown`, and makes no tree of a call.
+/// If the service reads calls (`Service::reads_calls`), the session makes no tree of a call from `initialized` up to
+/// `shutdown`.
 ///
 /// At bytes that are no message the session ends, as one with the policy `EndOnBadContent` does. `into_parts` then returns
-/// `SessionFault::Read`, and the bytes stay unread. If memory runs out, the session ends, and `into_parts` returns
+/// `SessionFault::Read`, and the bytes count as unread. If memory runs out, the session ends, and `into_parts` returns
 /// `SessionFault::Memory`. The room of a content part is reserved where its header part ends. So a length that no memory
 /// holds ends the session there, before a byte of the content part comes.
 ///
@@ -60,10 +60,12 @@ use std::alloc::Global;
 /// ```
 #[derive(Drop)]
 pub struct ByteSession<S> {
+    alloc: Global,
     core: SessionCore,
     service: S,
     most_pending: usize,
     input: FrameInput,
+    refused: ByteTrace,
     output: PendingOutput,
     end: Option<ReadEnd>,
     calls: CallReader,
@@ -82,10 +84,12 @@ impl<S: Service> ByteSession<S> {
         ensures known { KnowsEnd result }
     {
         ByteSession {
+            alloc,
             core: SessionCore::new(alloc),
             service,
             most_pending,
             input: FrameInput::new(alloc, limits),
+            refused: ByteTrace::new(),
             output: PendingOutput::new(alloc),
             end: None,
             calls: CallReader::new(alloc),
@@ -126,8 +130,6 @@ impl<S: Service> ByteSession<S> {
         ensures paused { PausesAtFrame self.old → PausesAtFrame self.new }
         ensures served { HasServed self.old → HasServed self.new }
         ensures known { KnowsEnd self.old → KnowsEnd self.new }
-        ensures memory { KnowsEnd self.old → (IsOver (standing self.old).stage → ⊥) → self.new.end ≡ Some (Fault Memory)
-            → RanOut self.old.input.limits (unread self.new) (drop_front result bytes.now) }
         ensures kept { KeepsBounds self.old self.new }
     {
         let mut taken = 0;
@@ -149,48 +151,73 @@ impl<S: Service> ByteSession<S> {
         ensures paused { PausesAtFrame self.new }
         ensures served { HasServed self.new }
         ensures known { KnowsEnd self.old → KnowsEnd self.new }
-        ensures memory { KnowsEnd self.old → self.new.end ≡ Some (Fault Memory)
-            → RanOut self.old.input.limits (unread self.new) (drop_front result bytes.now) }
         ensures kept { KeepsBounds self.old self.new }
     {
-        let reads_calls = self.core.awaits() == Awaits::MessageOrWake && self.service.reads_calls();
-        let (count, read) = self.input.receive(bytes, &mut self.calls, reads_calls);
+        let (count, read) = self.input.receive(bytes);
         match read {
-            Ok(Some(came)) => self.come(came.into_came()),
+            Ok(Some(frame)) => self.take(frame),
             Ok(None) => {}
-            Err(fault) => self.fail(fault),
+            Err(fault) => self.fail(fault, ByteTrace::new()),
         }
         count
     }
 
-    /// Ends the messages with this fault, with which the unread bytes begin.
-    fn fail(&mut self, fault: ReadFault)
+    /// Serves the message of a frame that came whole. At a content part that is no message, it ends the messages.
+    fn take(&mut self, frame: Frame)
         requires room { length (standing self.old).pending ≤ self.old.most_pending }
         requires waits { IsOver (standing self.old).stage → ⊥ }
-        requires begins { BeginsWithFault self.old.input.limits (unread self.old) fault }
-        ensures goes { Goes self.old.input.limits self.old.most_pending S.behavior (standing self.old) (unread self.old)
-            self.old.end [] (standing self.new) (unread self.new) self.new.end }
+        requires whole { IsFrameRead self.old.input.limits frame.content.items (concat frame.bytes.parts) }
+        requires begins { concat self.old.input.seen.parts ≡ [] }
+        requires awaits { AwaitsMore self.old.input.limits (concat self.old.input.seen.parts) }
+        ensures goes { Goes self.old.input.limits self.old.most_pending S.behavior (standing self.old)
+            (concat frame.bytes.parts) self.old.end [] (standing self.new) (unread self.new) self.new.end }
+        ensures frame { EndsAtFrame self.new }
+        ensures paused { PausesAtFrame self.new }
+        ensures served { HasServed self.new }
+        ensures known { KnowsEnd self.old → KnowsEnd self.new }
+        ensures kept { KeepsBounds self.old self.new }
+    {
+        let Frame { content, bytes } = frame;
+        let reads_calls = self.core.awaits() == Awaits::MessageOrWake && self.service.reads_calls();
+        match Incoming::in_part(self.alloc, &mut self.calls, reads_calls, content) {
+            Ok(came) => self.come(came.into_came()),
+            Err(fault) => self.fail(fault, bytes),
+        }
+    }
+
+    /// Ends the messages with this fault, with which these bytes begin, and those that the input has.
+    fn fail(&mut self, fault: ReadFault, refused: ByteTrace)
+        requires room { length (standing self.old).pending ≤ self.old.most_pending }
+        requires waits { IsOver (standing self.old).stage → ⊥ }
+        requires begins { BeginsWithFault self.old.input.limits
+            (concat refused.parts ++ concat self.old.input.seen.parts) fault }
+        ensures goes { Goes self.old.input.limits self.old.most_pending S.behavior (standing self.old)
+            (concat refused.parts ++ concat self.old.input.seen.parts) self.old.end [] (standing self.new)
+            (unread self.new) self.new.end }
         ensures ends { self.new.end ≡ Some (Fault fault) }
-        ensures unread { unread self.new ≡ unread self.old }
         ensures paused { PausesAtFrame self.new }
         ensures known { KnowsEnd self.new }
         ensures over { IsOver (standing self.new).stage }
         ensures kept { KeepsBounds self.old self.new }
     {
-        self.end = Some(ReadEnd::Fault(fault));
         self.come(Came::Closed);
+        self.end = Some(ReadEnd::Fault(fault));
+        self.refused = refused;
     }
 
     /// Passes an event to the session, and keeps the output for it. It drops an event that the session does not take.
     fn come(&mut self, came: Came)
         ensures comes { Comes S.behavior (standing self.old) (came_view came) (standing self.new) }
         ensures input { self.new.input ≡ self.old.input }
+        ensures unread { unread self.new ≡ unread self.old }
         ensures end { self.new.end ≡ self.old.end }
         ensures most { self.new.most_pending ≡ self.old.most_pending }
     {
         if !self.core.takes(&came) {
             return drop(came);
         }
+        // A session that goes on has refused no frame.
+        self.refused = ByteTrace::new();
         let turn = self.core.advance(&mut self.service, came);
         match self.output.add_turn(turn) {
             Ok(()) => {}
@@ -198,6 +225,18 @@ impl<S: Service> ByteSession<S> {
                 drop(error);
                 self.core.fail(ProtocolError::out_of_memory());
             }
+        }
+    }
+
+    /// Returns what ends the messages where the input ends: the end of the input at the start of a line of a header
+    /// part, and a fault elsewhere.
+    fn end_of_input(&self) -> ReadEnd
+        requires waits { IsOver (standing self.now).stage → ⊥ }
+        ensures { IsEndOf self.now.input.limits (unread self.now) result }
+    {
+        match self.input.at_end() {
+            None => ReadEnd::End,
+            Some(fault) => ReadEnd::Fault(fault),
         }
     }
 
@@ -214,7 +253,7 @@ impl<S: Service> ByteSession<S> {
         if self.core.awaits() == Awaits::Nothing {
             return;
         }
-        self.end = Some(self.input.end_of_input());
+        self.end = Some(self.end_of_input());
         self.come(Came::Closed);
     }
 

@@ -67,19 +67,19 @@ impl Incoming {
         }
     }
 
-    /// Reads what a content part holds. If calls are read, it makes no tree of a call, but copies its content part.
-    pub(crate) fn in_bytes(
+    /// Reads what a content part holds. If calls are read, it makes no tree of a call.
+    pub(crate) fn in_part(
         alloc: Global,
         calls: &mut CallReader,
         reads_calls: bool,
-        content: &[u8],
+        content: Vec<u8>,
     ) -> Result<Incoming, ReadFault>
-        ensures { Decodes incoming_view result (body_means content.now) }
+        ensures { Decodes incoming_view result (body_means content.items) }
     {
         if reads_calls {
-            return Incoming::in_content(alloc, calls, content.to_vec(alloc)?);
+            return Incoming::in_content(alloc, calls, content);
         }
-        Ok(Incoming::Message(Message::from_content(alloc, content)?))
+        Ok(Incoming::Message(Message::from_content(alloc, &content)?))
     }
 
     /// Returns whether this is the notification `exit`.

@@ -1,6 +1,5 @@
 use Rattle.std.proofs.Common.{◌∙◌, ◌-◌, length, take, drop, rules}
 use Rattle.lsp_session.proofs.ByteHistory.{goes_more, goes_same, within_more}
-use Rattle.lsp_session.proofs.MessagesEnd.{ran_out_more}
 use Rattle.lsp_session.specs.ByteSessions.{standing, unread}
 use Rattle.lsp_session.specs.TransportTurn.{IsOver}
 use Rattle.lsp_session.proofs.loops.byte_session.ByteSession.receive.Goals as goal
@@ -28,7 +27,5 @@ loop-taken-preserved g c =
       paused = λ _. part.paused;
       served = λ _. part.served;
       known = λ first. part.known (before.known first);
-      memory = λ first waited is. ran_out_more start.input.limits old.input.limits (unread new) bytes n r before.kept.0
-          (part.memory (before.known first) is);
       kept = (part.kept.0 ∙ before.kept.0, part.kept.1 ∙ before.kept.1);
     }

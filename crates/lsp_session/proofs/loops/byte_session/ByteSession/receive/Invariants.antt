@@ -1,12 +1,8 @@
-use Rattle.std.proofs.Common.{◌≡◌, ◌≤◌, ◌+◌, ◌-◌, length, take, drop, Some}
+use Rattle.std.proofs.Common.{◌≤◌, ◌+◌, ◌-◌, length, take}
 use Rattle.lsp_session.proofs.ByteHistory.{open_count}
 use Rattle.lsp_session.specs.ByteSession.{Goes}
 use Rattle.lsp_session.specs.ByteSessions.{standing, unread, EndsAtFrame, HasServed, KeepsBounds, KnowsEnd}
 use Rattle.lsp_session.specs.ByteSessions.{PausesAtFrame}
-use Rattle.lsp_session.specs.FramePlace.{RanOut}
-use Rattle.lsp_session.specs.TransportTurn.{IsOver}
-use Rattle.lsp_message.specs.declared.frame.ReadFault.TheVariants.{Memory}
-use Rattle.lsp_session.specs.declared.loops.ReadEnd.TheVariants.{Fault as AtFault}
 use Rattle.lsp_session.proofs.loops.byte_session.ByteSession.receive.Given as goal
 
 abbrev pub invariant-loop-taken : goal.invariant-loop-taken
@@ -18,8 +14,6 @@ invariant-loop-taken g l = record {
   paused : PausesAtFrame l.fn.self → PausesAtFrame l.self;
   served : HasServed l.fn.self → HasServed l.self;
   known : KnowsEnd l.fn.self → KnowsEnd l.self;
-  memory : KnowsEnd l.fn.self → (IsOver (standing l.fn.self).stage → ⊥) → l.self.end ≡ Some (AtFault Memory)
-      → RanOut l.fn.self.input.limits (unread l.self) (drop l.taken l.bytes);
   kept : KeepsBounds l.fn.self l.self;
 }
 
