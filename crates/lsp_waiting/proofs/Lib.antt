@@ -1,2 +1,0 @@
-mod Waiting
-mod Kept
