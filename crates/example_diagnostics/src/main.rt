@@ -7,7 +7,9 @@
 //! Hovers wait until the answer arrives, so they can be cancelled.
 #![tactic(auto)]
 
+ghost use Rattle.lsp_session.specs.ActBytes.{SkipsNothing};
 ghost use Rattle.lsp_session.specs.StreamTransports.{IsUnused, Serves};
+ghost use Rattle.lsp_session.specs.Transcripts.{notes_of};
 ghost use Rattle.lsp_acts.specs.ServerApplication.{ServerSession};
 
 use anyhow::{Result as Answer, bail};
@@ -17,6 +19,7 @@ use lsp_features::{Answers, announce, dispatch, dispatch_ref};
 use lsp_methods::{Configuration, from_value, publish};
 use lsp_server::calls::{CallRef, NotificationRef};
 use lsp_server::clients::{ClientOptions, serve_clients};
+use lsp_server::laws::policies::nothing_is_skipped;
 use lsp_server::policies::{BadContentPolicy, EndOnBadContent};
 use lsp_server::{
     Act, Notification, Request, ResponseError, Server, ServerApplication, SessionEnd, SessionFault,
@@ -329,15 +332,17 @@ fn heading_above(text: &Text, line: u32) -> Option<u32> {
 
 /// Serves the client of a transport. This holds for every reader and writer, also for standard input and output or a
 /// socket: the bytes that were taken are frames of messages, and those that were given are frames of what a session of
-/// a `Checker` sends for them, each before the next byte is taken.
+/// a `Checker` sends for them, each before the next byte is taken. No content part is skipped.
 fn serve<R: BufRead, W: Write>(
     transport: &mut StreamTransport<'_, R, W, EndOnBadContent>,
     checker: &mut ServerApplication<Checker, Asked>,
 ) -> Result<SessionEnd, SessionFault>
     requires { IsUnused transport.old }
-    ensures { Serves ⟦<EndOnBadContent as BadContentPolicy>⟧.passes
+    ensures session { Serves ⟦<EndOnBadContent as BadContentPolicy>⟧.passes
         (ServerSession ⟦<Checker as Server>⟧ checker.old.server checker.new.server) transport.old result transport.new }
+    ensures complete { SkipsNothing (notes_of transport.new.transcript.now) }
 {
+    nothing_is_skipped::<R, W, EndOnBadContent, ServerApplication<Checker, Asked>>();
     transport.serve(checker)
 }
 

@@ -2,23 +2,18 @@
 #![tactic(auto)]
 
 ghost use Rattle.serde_json.specs.View.{view};
-ghost use Rattle.std.specs.Prelude.{false};
-ghost use Rattle.lsp_session.specs.ActBytes.{SkipsNothing};
-ghost use Rattle.lsp_session.specs.Answered.{AnswersRequests};
-ghost use Rattle.lsp_session.specs.HandlerSession.{of_handler};
-ghost use Rattle.lsp_session.specs.Session.{SessionOut};
-ghost use Rattle.lsp_session.specs.SessionLaws.{Both, KeepsOrder};
-ghost use Rattle.lsp_session.specs.StreamTransports.{IsUnused, Serves};
-ghost use Rattle.lsp_session.specs.Transcripts.{notes_of};
+ghost use Rattle.std.specs.Prelude.{false, IfSome};
+ghost use Rattle.lsp_server.specs.Frame.{no_limit};
+ghost use Rattle.lsp_server.specs.Answered.{AnswersRequests};
+ghost use Rattle.lsp_server.specs.HandlerSession.{of_handler};
+ghost use Rattle.lsp_server.specs.Session.{SessionOut};
+ghost use Rattle.lsp_server.specs.SessionBytes.{Gives};
+ghost use Rattle.lsp_server.specs.SessionLaws.{Both, KeepsOrder};
 
 use anyhow::{Result, bail};
-use lsp_server::laws::policies::nothing_is_skipped;
 use lsp_server::laws::sessions::session_answers_requests;
-use lsp_server::policies::{BadContentPolicy, EndOnBadContent};
-use lsp_server::transports::ClientStreams;
 use lsp_server::{
-    Handler, HandlerApplication, Notification, Request, ResponseError, SessionEnd, SessionFault,
-    StreamTransport,
+    Handler, Notification, Request, ResponseError, SessionEnd, SessionFault, session,
 };
 use serde_json::{Value, json};
 use std::alloc::{AllocError, Global};
@@ -65,40 +60,41 @@ impl Handler for Documents {
     }
 }
 
-/// Serves the client of a transport. This holds for every reader and writer, also for standard input and output: the
-/// bytes that were taken are frames of messages, and those that were given are frames of what a session of `Documents`
-/// sends for them, each before the next byte is taken. Each request gets one reply. The messages keep the order of the
-/// lifecycle (LSP 3.17, "Server lifecycle"), and no content part is skipped.
+/// Serves one client, for every reader that says which bytes it has, such as a slice, and every writer. The bytes that
+/// are taken are frames of messages. The bytes that are written are frames of what a session of `Documents` sends for
+/// them. Each request gets one reply, and the messages keep the order of the lifecycle (LSP 3.17, "Server lifecycle").
+/// If a write or an allocation fails, the bytes are a prefix of these.
+///
+/// The contract says nothing about standard input. `serve` of `example_diagnostics` has one for every reader.
 fn serve<R: BufRead, W: Write>(
-    transport: &mut StreamTransport<'_, R, W, EndOnBadContent>,
-    documents: &mut HandlerApplication<Documents>,
+    alloc: Global,
+    reader: &mut R,
+    writer: &mut W,
+    capabilities: Value,
+    documents: &mut Documents,
 ) -> Result<SessionEnd, SessionFault>
-    requires { IsUnused transport.old }
-    ensures session { Serves ⟦<EndOnBadContent as BadContentPolicy>⟧.passes
+    ensures { IfSome (R.remaining reader.old) (λ text.
+        Gives no_limit
         (Both (SessionOut (of_handler ⟦<Documents as Handler>⟧.answer_post ⟦<Documents as Handler>⟧.note_post
-        (view documents.old.capabilities)) documents.old.handler documents.new.handler)
-        (Both AnswersRequests (KeepsOrder false false))) transport.old result transport.new }
-    ensures complete { SkipsNothing (notes_of transport.new.transcript.now) }
+        (view capabilities)) documents.old documents.new)
+        (Both AnswersRequests (KeepsOrder false false)))
+        text (R.remaining reader.new) (W.contents writer.old) (W.contents writer.new) result) }
 {
     session_answers_requests::<Documents>();
-    nothing_is_skipped::<R, W, EndOnBadContent, HandlerApplication<Documents>>();
-    transport.serve(documents)
+    session(alloc, reader, writer, capabilities, documents)
 }
 
 fn main(rt: HostRuntime) -> Result<()> {
     let alloc = rt.alloc();
     // The client is to notify the server when it opens or closes a document.
     let capabilities = json!(in alloc; { "textDocumentSync": { "openClose": true } })?;
-    let documents = Documents {
+    let mut documents = Documents {
         alloc,
         open_count: 0,
     };
-    let mut application = HandlerApplication::new(alloc, capabilities, documents);
-    let reader = BufReader::new(alloc, rt.reader())?;
-    let mut client = ClientStreams::new(reader, io::writer(&rt));
-    let mut policy = EndOnBadContent;
-    let mut transport = client.transport(alloc, &mut policy);
-    match serve(&mut transport, &mut application)? {
+    let mut input = BufReader::new(alloc, rt.reader())?;
+    let mut output = io::writer(&rt);
+    match serve(alloc, &mut input, &mut output, capabilities, &mut documents)? {
         SessionEnd::ShutDown => Ok(()),
         SessionEnd::Closed => bail!("the client left without a shutdown"),
     }

@@ -1,9 +1,9 @@
 //! The base of language servers (LSP 3.17, JSON-RPC 2.0). It carries messages between an editor and a server, does the
 //! handshake and the shutdown, and keeps the requests that have no reply yet.
 //!
-//! Write a `Handler` for a server that only answers, or a `Server` for one that also sends first. Make an `Application`
-//! of it with `HandlerApplication::new` or `ServerApplication::new`. Run it with `StreamTransport::serve` on one thread, or
-//! with `run_in_threads`. Take a `Connection` for a loop of your own. `docs/WRITING_A_SERVER.md` shows all three.
+//! Write a `Handler` for a server that only answers, and run it with `session`. Write a `Server` for one that also sends
+//! first, and run its `ServerApplication` with `StreamTransport::serve` on one thread, or with `run_in_threads`. Both also
+//! run a `HandlerApplication`. Take a `Connection` for a loop of your own. `docs/WRITING_A_SERVER.md` shows all three.
 #![tactic(auto)]
 
 pub mod calls;
