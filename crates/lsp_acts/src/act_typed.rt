@@ -4,13 +4,14 @@ ghost use Rattle.serde_json.specs.Data.{Data};
 ghost use Rattle.lsp_message.specs.Converted.{IsOutcomeOf, method_not_found};
 ghost use Rattle.lsp_message.specs.ErrorCode.{number_of};
 ghost use Rattle.lsp_message.specs.Message.{ErrorObject};
+ghost use Rattle.lsp_message.specs.View.{outcome_view};
 ghost use Rattle.lsp_acts.specs.Answering.{Notifies};
 ghost use Rattle.lsp_acts.specs.Acts.{asks, replies};
 ghost use Rattle.lsp_acts.specs.Typed.{Carries};
 ghost use Rattle.lsp_acts.specs.View.{act_view};
 
 use crate::server::Act;
-use lsp_message::{ErrorCode, Notification, RequestId, ResponseError, write_as};
+use lsp_message::{ErrorCode, Notification, RequestId, ResponseError, ResultText, write_as};
 use serde::Serialize;
 use std::alloc::{AllocError, Global};
 
@@ -74,6 +75,17 @@ impl<P: Drop + PartialEq> Act<P> {
     {
         let outcome = write_as(alloc, found)?;
         Ok(Act::Reply(id, outcome))
+    }
+
+    /// Makes the answer to the client's request with this id: a result whose JSON text is written already, or an error
+    /// (JSON-RPC 2.0, section 5).
+    pub fn reply_outcome(id: RequestId, outcome: Result<ResultText, ResponseError>) -> Act<P>
+        ensures { act_view P.eq result ≡ replies id (outcome_view outcome) }
+    {
+        match outcome {
+            Ok(text) => Act::ReplyText(id, text),
+            Err(error) => Act::Reply(id, Err(error)),
+        }
     }
 
     /// Makes the answer to the client's request with this id: an error with a code that the standards define, a short

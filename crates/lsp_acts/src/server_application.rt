@@ -158,10 +158,8 @@ impl<P: Drop + PartialEq> Queues<P> {
         ensures { IfOk result (λ _.
             queues_of self.new ≡ with_message (queues_of self.old) (to_send_view message)) }
     {
-        match self.sent.push(message) {
-            Ok(()) => Ok(()),
-            Err(_) => Err(AllocError),
-        }
+        self.sent.push(message)?;
+        Ok(())
     }
 
     fn hold(&mut self, id: &RequestId) -> Result<(), AllocError>

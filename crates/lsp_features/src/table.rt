@@ -15,7 +15,7 @@ use crate::feature::{Answers, Feature};
 use lsp_acts::Act;
 use lsp_calls::RequestRef;
 use lsp_json::JsonRef;
-use lsp_message::{Request, RequestId, ResponseError, ResultText};
+use lsp_message::{Request, ResponseError, ResultText};
 use lsp_methods::{from_json, result_text};
 use serde_json::{Map, Value};
 use std::alloc::{AllocError, Global};
@@ -175,7 +175,7 @@ where
             let Request { id, method, params } = request;
             drop(method);
             drop(params);
-            Ok(Ok(Act::one(alloc, reply_act(id, outcome))?))
+            Ok(Ok(Act::one(alloc, Act::reply_outcome(id, outcome))?))
         }
         None => Ok(Err(request)),
     }
@@ -202,21 +202,8 @@ where
     match T::answer(server, alloc, request)? {
         Some(outcome) => {
             let id = request.id.clone()?;
-            Ok(Some(Act::one(alloc, reply_act(id, outcome))?))
+            Ok(Some(Act::one(alloc, Act::reply_outcome(id, outcome))?))
         }
         None => Ok(None),
-    }
-}
-
-/// Makes the act that sends this outcome.
-fn reply_act<P: Drop + PartialEq>(
-    id: RequestId,
-    outcome: Result<ResultText, ResponseError>,
-) -> Act<P>
-    ensures { act_view P.eq result ≡ replies id (outcome_view outcome) }
-{
-    match outcome {
-        Ok(text) => Act::ReplyText(id, text),
-        Err(error) => Act::Reply(id, Err(error)),
     }
 }

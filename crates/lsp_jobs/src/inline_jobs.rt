@@ -10,7 +10,7 @@ ghost use Rattle.lsp_jobs.specs.Outcomes.{MayAsk, MayReport};
 use crate::job::{DoneJob, Interrupted, Job, JobContext, run_as_text};
 use crate::job_server::{AnsweredBy, JobCommand, JobServer, KeyedJobs, StatesJobs};
 use crate::names::JobName;
-use crate::pooled_server::{end_job, one_act, out_of_memory};
+use crate::pooled_server::{end_job, out_of_memory};
 use crate::reporter::Picked;
 use lsp_acts::{Act, Server};
 use lsp_message::{Notification, Request, ResponseError};
@@ -158,8 +158,8 @@ impl<S: JobServer<J> + Drop, J: Job> InlineJobs<S, J> {
                 self.run_job(JobName::Request(id), job, &mut acts)?;
                 self.settle(acts)
             }
-            Ok(AnsweredBy::Reply(outcome)) => one_act(self.alloc, Act::Reply(id, outcome)),
-            Err(_) => { one_act(self.alloc, Act::Reply(id, Err(out_of_memory(self.alloc)?))) }
+            Ok(AnsweredBy::Reply(outcome)) => Act::one(self.alloc, Act::Reply(id, outcome)),
+            Err(_) => { Act::one(self.alloc, Act::Reply(id, Err(out_of_memory(self.alloc)?))) }
         }
     }
 }
@@ -290,10 +290,8 @@ fn push_notification<P: Drop + PartialEq>(
     ensures { IfOk result (λ _. map (act_view P.eq) acts.new.items
         ≡ map (act_view P.eq) acts.old.items ++ told notification ∷ []) }
 {
-    match acts.push(Act::SendNotification(notification)) {
-        Ok(()) => Ok(()),
-        Err(_) => Err(AllocError),
-    }
+    acts.push(Act::SendNotification(notification))?;
+    Ok(())
 }
 
 /// The context of a job that runs on the session's thread: it keeps what the job sends. Contracts see how many
@@ -340,10 +338,7 @@ impl<W: Picked<J>, J: Job> InlineContext<W, J> {
         let InlineContext { sent, last, .. } = self;
         let mut sent = sent;
         if let Some(last) = last {
-            match sent.push(last) {
-                Ok(()) => {}
-                Err(_) => return Err(AllocError),
-            }
+            sent.push(last)?;
         }
         Ok(sent)
     }

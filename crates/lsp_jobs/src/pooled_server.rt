@@ -160,7 +160,7 @@ where
         let id = request.id.clone()?;
         match self.answer_to(request)? {
             AnsweredBy::Job(job) => self.start_for(id, job),
-            AnsweredBy::Reply(outcome) => one_act(self.alloc, Act::Reply(id, outcome)),
+            AnsweredBy::Reply(outcome) => Act::one(self.alloc, Act::Reply(id, outcome)),
         }
     }
 
@@ -408,27 +408,14 @@ pub(crate) fn push_reply<P: Drop + PartialEq>(
         ≡ map (act_view P.eq) acts.old.items ++ reply_with name (outcome_view outcome)) }
 {
     match name {
-        JobName::Request(id) => match acts.push(reply_act(id, outcome)) {
-            Ok(()) => Ok(()),
-            Err(_) => Err(AllocError),
-        },
+        JobName::Request(id) => {
+            acts.push(Act::reply_outcome(id, outcome))?;
+            Ok(())
+        }
         JobName::Keyed(key) => {
             drop((key, outcome));
             Ok(())
         }
-    }
-}
-
-/// Makes the reply to this request.
-fn reply_act<P: Drop + PartialEq>(
-    id: RequestId,
-    outcome: Result<ResultText, ResponseError>,
-) -> Act<P>
-    ensures { act_view P.eq result ≡ replies id (outcome_view outcome) }
-{
-    match outcome {
-        Ok(text) => Act::ReplyText(id, text),
-        Err(error) => Act::Reply(id, Err(error)),
     }
 }
 
@@ -491,20 +478,6 @@ fn act_by_server<P: Drop + PartialEq>(act: Act<P>) -> Act<RequestOrigin<P>>
         Act::Reply(id, outcome) => Act::Reply(id, outcome),
         Act::ReplyText(id, text) => Act::ReplyText(id, text),
         Act::Cancel(payload) => Act::Cancel(RequestOrigin::ByServer(payload)),
-    }
-}
-
-/// Makes a list with this act alone.
-pub(crate) fn one_act<P: Drop + PartialEq>(
-    alloc: Global,
-    act: Act<P>,
-) -> Result<Vec<Act<P>>, AllocError>
-    ensures { IfOk result (λ acts. map (act_view P.eq) acts.items ≡ act_view P.eq act ∷ []) }
-{
-    let mut acts = Vec::new(alloc);
-    match acts.push(act) {
-        Ok(()) => Ok(acts),
-        Err(_) => Err(AllocError),
     }
 }
 
@@ -587,16 +560,19 @@ where
         alloc: Global,
     ) -> Result<Vec<Act<RequestOrigin<S::PendingData>>>, AllocError> {
         if let Some(number) = self.pool.take_request_to_cancel() {
-            return one_act(alloc, Act::Cancel(RequestOrigin::ByJob(number)));
+            return Act::one(alloc, Act::Cancel(RequestOrigin::ByJob(number)));
         }
         let Some(said) = self.pool.take_message() else {
             return Ok(Vec::new(alloc));
         };
         let (name, message) = said;
         match message {
-            JobMessage::Report(notification) => one_act(alloc, Act::SendNotification(notification)),
+            JobMessage::Report(notification) => Act::one(
+                alloc,
+                Act::SendNotification(notification),
+            ),
             JobMessage::Ask(method, params, number) => {
-                one_act(
+                Act::one(
                     alloc,
                     Act::SendRequest(method, params, RequestOrigin::ByJob(number)),
                 )

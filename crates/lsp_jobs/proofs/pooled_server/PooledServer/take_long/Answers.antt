@@ -1,8 +1,10 @@
-use Rattle.std.proofs.Common.{◌∙◌, sym, ap, refl, inl, inr, [], ◌∷◌, Err}
+use Rattle.std.proofs.Common.{◌∙◌, sym, ap, refl, inl, inr, [], ◌∷◌, map, Err}
 use Rattle.std.proofs.lemmas.Result.{IfOk-weaker}
 use Rattle.lsp_message.specs.Id.{Id}
 use Rattle.lsp_message.specs.View.{outcome_view}
 use Rattle.lsp_acts.specs.Acts.{replies}
+use Rattle.lsp_acts.specs.View.{act_view}
+use Rattle.lsp_jobs.specs.Asking.{same_origin}
 use Rattle.lsp_jobs.specs.Ends.{no_memory}
 use Rattle.lsp_jobs.specs.PendingJobs.{with_job, without}
 use Rattle.lsp_jobs.specs.PoolView.{pending_jobs}
@@ -38,10 +40,11 @@ returns-in-Reply g c =
     let known = (rw c.in-Reply.is at c.in_ok-job.ensures) in
     let before = pending_jobs c.args.self.now.pool in
     let outcome = outcome_view c.in-Reply.outcome in
-    IfOk-weaker c.one_act.result _ _ (λ all is. inr (record {
+    let view_all = act_view (same_origin g.S.PendingData.PartialEq.eq) in
+    IfOk-weaker c.one.result _ _ (λ all is. inr (record {
       outcome = outcome;
       is = known;
-      acts = is ∙ ap (λ (i : Id). replies i outcome ∷ []) c.in_ok-id.ensures;
+      acts = ap (map view_all) is ∙ ap (λ (i : Id). replies i outcome ∷ []) c.in_ok-id.ensures;
       left = ap (λ p. (c.args.self.now.server, p))
           (sym (without_absent before (Request c.args.request.id) c.requires));
-    })) c.one_act.ensures
+    })) c.one.ensures
