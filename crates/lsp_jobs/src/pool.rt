@@ -16,7 +16,7 @@ use crate::waiting_jobs::{JobSource, WaitingJobs, queue_of_jobs};
 use crate::workers::{QueuedJob, join_all, start_job_workers};
 use crossbeam_channel::{Receiver, bounded};
 use lsp_message::{Notification, RequestId, ResponseError};
-use lsp_threads::StartFault;
+use lsp_relay::StartFault;
 use serde_json::Value;
 use std::alloc::{AllocError, Global};
 use std::sync::atomic::{AtomicBool, Ordering};

@@ -1,7 +1,7 @@
 // The trees of results, on their way back to the session's thread after their text was made. Two threads that allocate
 // and free in one arena of the C library wait for its lock, so a tree is best freed by the thread that allocated it.
 // That is the session's thread if a job returns its params. Most other trees are allocated by the worker itself.
-use lsp_threads::give_back::{GiveBack, GivenBack, way_back};
+use lsp_relay::give_back::{GiveBack, GivenBack, way_back};
 use serde_json::{Map, Value};
 use std::alloc::{AllocError, Global};
 use std::sync::atomic::{AtomicUsize, Ordering};

@@ -9,11 +9,9 @@ use crate::job_server::{JobServer, StatesJobs};
 use crate::pool::{PoolSize, start_pool};
 use crate::pooled_server::PooledServer;
 use lsp_acts::ServerApplication;
-use lsp_relay::relay;
+use lsp_relay::{StartFault, relay};
 use lsp_session::BadContentPolicy;
-use lsp_threads::{
-    Contents, ContentsPlan, StartFault, ThreadOptions, ThreadsOutcome, run_in_threads_over,
-};
+use lsp_threads::{Contents, ContentsPlan, ThreadOptions, ThreadsOutcome, run_in_threads_over};
 use std::alloc::Global;
 use std::io::{BufRead, Write};
 use std::sync::Wait;

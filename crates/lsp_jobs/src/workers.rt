@@ -16,7 +16,7 @@ use crate::pool::PoolSize;
 use crate::reporter::{Picked, Reporter};
 use crate::returned_trees::TreeReturn;
 use crate::waiting_jobs::{JobSource, RunningJobs};
-use lsp_threads::StartFault;
+use lsp_relay::StartFault;
 use std::alloc::Global;
 use std::marker::{Brand, PhantomData};
 use std::sync::{Arc, Mutex, Wait};

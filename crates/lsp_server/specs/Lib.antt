@@ -47,6 +47,7 @@ pub use Rattle.lsp_queue.specs.Queue
 pub use Rattle.lsp_queue.specs.QueueRun
 pub use Rattle.lsp_queue.specs.Registering
 pub use Rattle.lsp_relay.specs.Relay
+pub use Rattle.lsp_relay.specs.StartFault
 pub use Rattle.lsp_acts.specs.Law
 pub use Rattle.lsp_acts.specs.ServerApplication
 pub use Rattle.lsp_session.specs.Answered

@@ -1,6 +1,6 @@
 //! Messages that this side made and that were written, on their way to the thread that made them. Two threads that
 //! allocate and free in one arena of the C library wait for its lock, so a message is best freed by its maker.
-use lsp_threads::give_back::{GiveBack, GivenBack, way_back};
+use lsp_relay::give_back::{GiveBack, GivenBack, way_back};
 use std::alloc::{AllocError, Global};
 use std::sync::atomic::{AtomicBool, Ordering};
 use std::sync::{Arc, Wait};

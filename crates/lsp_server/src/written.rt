@@ -4,7 +4,7 @@
 //! their maker if it asks for them. Otherwise the writing thread drops them.
 use crate::spent::ToMaker;
 use crossbeam_channel::{Receiver, Sender, bounded};
-use lsp_threads::give_back::{GiveBack, GivenBack, way_back};
+use lsp_relay::give_back::{GiveBack, GivenBack, way_back};
 use std::alloc::{AllocError, Global};
 use std::sync::atomic::{AtomicUsize, Ordering};
 use std::sync::{Arc, Wait};

@@ -37,7 +37,7 @@ use Rattle.lsp_threads.specs.Replies.{reply_fault}
 use Rattle.lsp_threads.specs.Threads.{ReportsReader, ReportsWriter, session_end}
 use Rattle.lsp_threads.specs.declared.pumping.PumpFault.{PumpFault}
 use Rattle.lsp_threads.specs.declared.pumping.PumpFault.TheVariants.{Start}
-use Rattle.lsp_threads.specs.declared.workers.StartFault.{StartFault}
+use Rattle.lsp_relay.specs.declared.start_fault.StartFault.{StartFault}
 
 -- ---- the thread that reads
 

@@ -16,7 +16,7 @@ use Rattle.lsp_threads.specs.Replies.{reply_fault}
 use Rattle.lsp_threads.specs.Threads.{FlushesInThreads}
 use Rattle.lsp_threads.specs.declared.pumping.PumpFault.{PumpFault}
 use Rattle.lsp_threads.specs.declared.pumping.PumpFault.TheVariants.{Start}
-use Rattle.lsp_threads.specs.declared.workers.StartFault.{StartFault}
+use Rattle.lsp_relay.specs.declared.start_fault.StartFault.{StartFault}
 
 module _ (given : Parts) where
   -- a session whose output did not fail has no fault of writing

@@ -1,6 +1,6 @@
 -- What is written of the messages of a text.
 use Rattle.std.specs.Io.KnownBytes.{Keeps}
-use Rattle.std.specs.Prelude.{◌≡◌, ◌⊎◌, ℕ, List, [], Option, Some, None, Result, Ok, Err, codes}
+use Rattle.std.specs.Prelude.{◌≡◌, ◌⊎◌, ℕ, List, [], Option, Some, None, Result, Ok, Err}
 use Rattle.lsp_message.specs.Faults.{read_fault_text, write_fault_text}
 use Rattle.lsp_message.specs.Messages.{exited, ended, failed}
 use Rattle.lsp_message.specs.Message.{Message}
@@ -11,6 +11,7 @@ use Rattle.lsp_message.specs.declared.frame.WriteFault.TheVariants.{Output, Memo
 use Rattle.lsp_message.specs.declared.frame.WriteFault.{WriteFault}
 use Rattle.lsp_message.specs.declared.frame.byte_trace.ByteTrace.{ByteTrace}
 use Rattle.lsp_message.specs.declared.frame.limits.Limits.{Limits}
+use Rattle.lsp_relay.specs.StartFault.{start_fault_text}
 use Rattle.lsp_session.specs.ReadLoop.{Extent, to_end, in_part, up_to, ReadsOver}
 use Rattle.lsp_session.specs.SessionFailures.{write_failures}
 use Rattle.lsp_session.specs.declared.loops.ReadEnd.{ReadEnd}
@@ -18,8 +19,6 @@ use Rattle.lsp_session.specs.declared.loops.ReadEnd.TheVariants.{Exit, End, Faul
 use Rattle.lsp_threads.specs.Passing.{IsFlushed, ReadingFails}
 use Rattle.lsp_threads.specs.declared.pumping.PumpFault.{PumpFault}
 use Rattle.lsp_threads.specs.declared.pumping.PumpFault.TheVariants.{Read, Write, Start}
-use Rattle.lsp_threads.specs.declared.workers.StartFault.{StartFault}
-use Rattle.lsp_threads.specs.declared.workers.StartFault.TheVariants.{Memory as StartMemory, Thread}
 
 -- the parts of a frame have at most so many bytes
 module _ (limit : Limits) (text : List ℕ) (old new : Option (List ℕ)) where
@@ -74,10 +73,6 @@ pump_answer Closed None = Ok tt
 pump_answer Full None = Err (Write NoMemory)
 
 -- what a fault prints
-abbrev pub start_fault_text : StartFault → Option (List ℕ)
-start_fault_text StartMemory = Some (codes "out of memory")
-start_fault_text Thread = Some (codes "thread not started")
-
 abbrev pub pump_fault_text : PumpFault → Option (List ℕ)
 pump_fault_text (Read fault) = read_fault_text fault
 pump_fault_text (Write fault) = write_fault_text fault

@@ -8,7 +8,6 @@ mod content_parts;
 mod content_reader;
 mod frame_batch;
 mod frame_text;
-pub mod give_back;
 mod goes_on;
 pub mod laws;
 mod parcels;
@@ -24,10 +23,10 @@ mod workers;
 mod write_trace;
 
 pub use content_batch::{Contents, ContentsPlan, ContentsRx, ContentsTx};
+pub use lsp_relay::StartFault;
 pub use pumping::{PumpFault, PumpOutcome, pump, pump_traced, pump_with, pump_within};
 pub use run::{
     DEFAULT_READ_AHEAD_BYTES, ThreadOptions, Threaded, ThreadsOutcome, UNWRITTEN_BYTES,
     run_in_threads, run_in_threads_over, run_threads, run_threads_within,
 };
-pub use workers::StartFault;
 pub use write_trace::WriteTrace;

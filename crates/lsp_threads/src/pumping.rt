@@ -7,10 +7,10 @@ ghost use Rattle.lsp_threads.specs.Pump.{PumpFlushes, PumpReportsReader, PumpRep
 use crate::backlog::bounded_backlog;
 use crate::frame_batch::write_texts;
 use crate::frame_text::FrameText;
-use crate::workers::{StartFault, start_reader};
+use crate::workers::start_reader;
 use crate::write_trace::WriteTrace;
 use lsp_message::{ByteTrace, Limits, ReadFault, WriteFault};
-use lsp_relay::{AnyPlan, RelayTx, relay, settle_all};
+use lsp_relay::{AnyPlan, RelayTx, StartFault, relay, settle_all};
 use lsp_session::ReadEnd;
 use std::alloc::Global;
 use std::error::Error;

@@ -8,10 +8,10 @@ ghost use Rattle.lsp_threads.specs.InThreads.{HandlesInThreads, ServesInThreads}
 
 use crate::content_batch::{Contents, ContentsPlan, ContentsRx, ContentsTx};
 use crate::serving::{serve_between, start_both};
-use crate::workers::{ROOM, StartFault};
+use crate::workers::ROOM;
 use crate::write_trace::WriteTrace;
 use lsp_message::{ByteTrace, Limits};
-use lsp_relay::relay;
+use lsp_relay::{StartFault, relay};
 use lsp_session::{
     Application, BadContentPolicy, EndOnBadContent, Handler, HandlerService, SessionEnd,
     SessionFault,

@@ -10,11 +10,9 @@ use crate::frame_batch::write_texts;
 use crate::frame_text::FrameText;
 use crate::write_trace::WriteTrace;
 use lsp_message::{ByteTrace, Limits, WriteFault};
-use lsp_relay::RelayRx;
+use lsp_relay::{RelayRx, StartFault};
 use lsp_session::ReadEnd;
 use std::alloc::Global;
-use std::error::Error;
-use std::fmt;
 use std::io::{BufRead, Write};
 use std::snapshot::Snapshot;
 use std::sync::Wait;
@@ -22,32 +20,6 @@ use std::thread::{Builder, Promise, PromisedHandle, Threads};
 
 /// How many parcels may wait between two threads. It changes speed and memory only, and no answer.
 pub const ROOM: usize = 32;
-
-/// Why the threads of a call were not started. Nothing was read or written then.
-///
-/// It prints `out of memory` or `thread not started`.
-#[derive(Clone, Copy, Debug, PartialEq, Eq)]
-pub enum StartFault {
-    /// 1: an allocation failed.
-    Memory,
-    /// 2: a thread was not started, because an allocation failed or for another reason.
-    Thread,
-}
-
-impl fmt::Display for StartFault {
-    ghost use Rattle.lsp_threads.specs.Pump.{start_fault_text};
-
-    ghost output = { start_fault_text };
-
-    fn fmt<W: fmt::Write>(&self, f: &mut fmt::Formatter<W>) -> fmt::Result {
-        match self {
-            StartFault::Memory => write!(f, "out of memory"),
-            StartFault::Thread => write!(f, "thread not started"),
-        }
-    }
-}
-
-impl Error for StartFault {}
 
 /// The end of a relay on which a reading thread sends. The thread is started for any such end, since the check finds
 /// that it may own it only if it need not look into its type.
