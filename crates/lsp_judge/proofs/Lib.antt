@@ -1,4 +1,4 @@
 mod CleanRecording
 mod Decided
 mod EachLine
-mod Unread
+pub mod Unread
