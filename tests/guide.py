@@ -1,18 +1,16 @@
 #!/usr/bin/env python3
 """Follows the guide to the letter: runs the commands of docs/WRITING_A_SERVER.md in an empty folder that has a copy of this repository.
 
-    tests/guide.py          runs the commands that take less than a minute or two
-    tests/guide.py --all    runs those that take longer too, in half an hour or more
+    tests/guide.py          runs the commands that prove nothing, in a few minutes
+    tests/guide.py --all    runs those that prove too, in half an hour or more
 
 In an indented block of the page, a line that begins with `$ ` is a command, which has to end in status 0. The lines up to the next command
 are what it prints: all of it, or its first part if they end in `...`. If there are no such lines, it may print anything. The blocks are
-one session of a shell, so `cd` holds for the blocks that follow. A command that ends in `&` runs until the session ends. Each port of the
-page is replaced by a free one.
+one session of a shell, so `cd` holds for the blocks that follow.
 
-Without --all, two kinds of commands are not run. A command that proves, such as `rt check`, would prove the libraries again: it takes no
-library from `rt ci`, which proves them in the gate. The toolchain is only asked whether it has this command and these options. A command
-that ends in `&` runs a whole server unproved, which takes minutes. It is left out with those that follow it in its block. At the first
-difference the script ends in status 1.
+Without --all, a command that proves, such as `rt check`, is not run. It would prove the libraries again: it takes no library from `rt ci`,
+which proves them in the gate. The toolchain is only asked whether it has this command and these options. At the first difference the
+script ends in status 1.
 """
 import os
 import re
@@ -26,26 +24,23 @@ from pathlib import Path
 
 sys.dont_write_bytecode = True
 
-from lsp import Difference, expect, free_port, run
+from lsp import Difference, expect, run
 
 ROOT = Path(__file__).resolve().parent.parent
 PAGE = ROOT / "docs/WRITING_A_SERVER.md"
 BLOCK = re.compile(r"(?m)^\n((?:    .*\n|\n(?=    ))+)")
 PROVES = re.compile(r"rt (check|run|lib|test|verdict|ci|all)\b([^<]*)(?:< \w+)?")
-PORT = re.compile(r"\b127\.0\.0\.1:(\d+)")
 # The line after a command's output: its status stands after this character, which no command prints.
 END = "\x1e"
 AUTHOR = {f"GIT_{who}_{what}": value for who in ("AUTHOR", "COMMITTER") for what, value in (("NAME", "guide"), ("EMAIL", "guide@localhost"))}
 
 
-def commands(page, has_all):
+def commands(page):
     """The commands of a page, each with the output that the page shows."""
     for block in BLOCK.findall(page):
         lines = [line[4:] for line in block.splitlines()]
         starts = [at for at, line in enumerate(lines) if line.startswith("$ ")]
         for start, end in zip(starts, [*starts[1:], len(lines)]):
-            if lines[start].endswith("&") and not has_all:
-                break
             yield lines[start][2:], "\n".join(lines[start + 1 : end]).strip()
 
 
@@ -74,8 +69,6 @@ def shell(folder):
 def output_of(command, session):
     """Runs a command in the shell, and returns its output."""
     process, log = session
-    if command.endswith("&"):
-        command = f"{{ {command[:-1]}; }} > background.log 2>&1 &"
     process.stdin.write(f"{{ {command}\n}} < /dev/null; echo '{END}'$?\n".encode())
     process.stdin.flush()
     lines = []
@@ -100,12 +93,10 @@ def check_options(command, options):
 
 
 def follow(page, has_all):
-    ports = {it: str(free_port()) for it in PORT.findall(page)}
-    page = PORT.sub(lambda it: f"127.0.0.1:{ports[it[1]]}", page)
     with tempfile.TemporaryDirectory() as folder:
         copy_to(Path(folder, "lsp_server"))
         with shell(Path(folder, "lsp_server")) as session:
-            found = list(commands(page, has_all))
+            found = list(commands(page))
             expect("whether the page has commands", bool(found), True)
             for command, wanted in found:
                 proof = PROVES.fullmatch(command)
