@@ -1,1 +1,2 @@
 mod FitsLemmas
+mod HullLemmas

@@ -1,6 +1,6 @@
 -- Ranges of a text, as JSON has them (LSP 3.17, "Position" and "Range").
 use Rattle.std.specs.Prelude.{ℕ, suc, Bool, true, false, not, ◌&&◌, ◌||◌, ◌==◌, nat_lt, List, Option, Some, None, codes}
-use Rattle.std.specs.Prelude.{option_and_then, option_map}
+use Rattle.std.specs.Prelude.{option_and_then, option_map, if◌then◌else◌}
 use Rattle.serde_json.specs.Data.{Data, Items, no_items, item}
 use Rattle.serde_json.specs.Find.{get, as_number, as_u64}
 use Rattle.lsp_model.specs.declared.spans.Place.{Place}
@@ -33,6 +33,18 @@ abbrev pub overlap : Option Span → Option Span → Bool
 overlap None other = false
 overlap (Some one) None = false
 overlap (Some one) (Some other) = is_before one.start other.end && is_before other.start one.end
+
+abbrev pub earlier : Place → Place → Place
+earlier a b = if is_before b a then b else a
+
+abbrev pub later : Place → Place → Place
+later a b = if is_before a b then b else a
+
+-- The range from the first start to the last end of two ranges. One that can't be read has no part in it.
+abbrev pub hull : Option Span → Option Span → Option Span
+hull None other = other
+hull (Some one) None = Some one
+hull (Some one) (Some other) = Some (record { start = earlier one.start other.start; end = later one.end other.end })
 
 -- it is not known of what can't be read
 abbrev pub is_within : Option Span → Option Span → Bool

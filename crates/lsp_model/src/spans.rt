@@ -1,7 +1,7 @@
 // Ranges of a text, as JSON has them (LSP 3.17, "Position" and "Range").
 ghost use Rattle.std.specs.Prelude.{◌≡◌, option_map};
 ghost use Rattle.serde_json.specs.View.{view};
-ghost use Rattle.lsp_model.specs.Spans.{number_in, place_in, span_of, span_in, is_before as is_earlier, comes_before, overlap as do_overlap, is_within as is_inside, is_reversed as is_range_reversed, is_fold_reversed as is_folding_reversed};
+ghost use Rattle.lsp_model.specs.Spans.{number_in, place_in, span_of, span_in, is_before as is_earlier, comes_before, overlap as do_overlap, hull as hull_of, earlier as earlier_of, later as later_of, is_within as is_inside, is_reversed as is_range_reversed, is_fold_reversed as is_folding_reversed};
 
 use serde_json::Value;
 
@@ -67,6 +67,32 @@ pub fn overlap(one: Option<Span>, other: Option<Span>) -> bool
         }
         _ => false,
     }
+}
+
+/// Returns the range from the first start to the last end of two ranges. One that can't be read has no part in it.
+pub fn hull(one: Option<Span>, other: Option<Span>) -> Option<Span>
+    ensures { result ≡ hull_of one other }
+{
+    match (one, other) {
+        (Some(one), Some(other)) => Some(Span {
+            start: earlier(one.start, other.start),
+            end: later(one.end, other.end),
+        }),
+        (one, None) => one,
+        (None, other) => other,
+    }
+}
+
+fn earlier(one: Place, other: Place) -> Place
+    ensures { result ≡ earlier_of one other }
+{
+    if other.is_before(one) { other } else { one }
+}
+
+fn later(one: Place, other: Place) -> Place
+    ensures { result ≡ later_of one other }
+{
+    if one.is_before(other) { other } else { one }
 }
 
 /// Returns whether a range is within another one. Where one of them can't be read, this is not known, and the result is true.

@@ -6,7 +6,7 @@ ghost use Rattle.lsp_model.specs.Spans.{any_overlap as any_overlaps, overlaps_on
 
 use crate::form::Form;
 use crate::mode::Mode;
-use crate::spans::{Span, is_fold_reversed, is_reversed, is_within, overlap};
+use crate::spans::{Span, hull, is_fold_reversed, is_reversed, is_within, overlap};
 use serde_json::Value;
 
 /// Returns whether a value keeps what its type demands of texts, as far as this mode looks at it.
@@ -47,15 +47,19 @@ fn are_fives(numbers: &Value) -> bool
 }
 
 /// Returns whether two edits overlap.
+///
+/// Each edit is compared with the range from the first start to the last end of the edits before it. If it does not overlap this range, it
+/// overlaps none of them. So a list in order, or in the reverse order, takes one pass.
 fn any_overlap(edits: &[Value]) -> bool
     ensures { result ≡ any_overlaps (items_view edits.now) }
 {
-    let mut rest = edits;
-    while let [edit, others @ ..] = rest {
-        if overlaps_one(edit, others) {
+    let mut before = None;
+    for (at, edit) in edits.iter().enumerate() {
+        let range = Span::of(edit, "range");
+        if overlap(range, before) && overlaps_one(edit, &edits[..at]) {
             return true;
         }
-        rest = others;
+        before = hull(range, before);
     }
     false
 }

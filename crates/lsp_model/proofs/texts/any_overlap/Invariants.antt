@@ -1,11 +1,11 @@
-use Rattle.std.proofs.Common.{◌≡◌, length}
+use Rattle.std.proofs.Common.{◌≡◌, false, take, codes}
+use Rattle.serde_json.specs.Data.{Data}
 use Rattle.serde_json.specs.View.{items_view}
-use Rattle.lsp_model.specs.Spans.{any_overlap}
+use Rattle.lsp_model.specs.Spans.{any_overlap, overlap, overlaps_one, span_in}
 use Rattle.lsp_model.proofs.texts.any_overlap.Given as goal
 
-abbrev pub decreases-loop-rest : goal.decreases-loop-rest
-decreases-loop-rest l = length l.rest
-
--- of what is left as many overlap as of all
-abbrev pub invariant-loop-rest : goal.invariant-loop-rest
-invariant-loop-rest l = any_overlap (items_view l.fn.edits) ≡ any_overlap (items_view l.rest)
+-- Of the edits so far none overlap. What does not overlap their range overlaps none of them.
+abbrev pub invariant-loop-at : goal.invariant-loop-at
+invariant-loop-at l = (any_overlap (items_view (take l.at l.edits)) ≡ false)
+    × ((d : Data) → overlap (span_in (codes "range") d) l.before ≡ false
+    → overlaps_one d (items_view (take l.at l.edits)) ≡ false)
