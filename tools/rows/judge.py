@@ -61,14 +61,15 @@ RULES = {
     "RangeReversed": Rule("sender", "implied", "the end of a range is before its start", 'LSP 3.17, "Range" and "FoldingRange"'),
     "LineOutside": Rule("sender", "must", "a line of a folding range is no line of the document", 'LSP 3.17, "FoldingRange"'),
 }
-# By which member of its capabilities a server announces a method, and by which path a client announces that it answers one.
+# By which path of its capabilities a server announces a method, and by which path a client announces that it answers one.
 PROVIDERS = {f"textDocument/{it}": f"{it}Provider" for it in (
     "hover definition declaration typeDefinition implementation references documentHighlight documentSymbol codeAction codeLens documentLink rename"
     " foldingRange selectionRange completion signatureHelp inlayHint inlineValue linkedEditingRange moniker diagnostic").split()} | {
     "textDocument/formatting": "documentFormattingProvider", "textDocument/rangeFormatting": "documentRangeFormattingProvider",
     "textDocument/onTypeFormatting": "documentOnTypeFormattingProvider", "textDocument/documentColor": "colorProvider",
     "textDocument/prepareCallHierarchy": "callHierarchyProvider", "textDocument/prepareTypeHierarchy": "typeHierarchyProvider",
-    "textDocument/semanticTokens/full": "semanticTokensProvider", "workspace/symbol": "workspaceSymbolProvider",
+    "textDocument/semanticTokens/full": "semanticTokensProvider full", "textDocument/semanticTokens/full/delta": "semanticTokensProvider full delta",
+    "textDocument/semanticTokens/range": "semanticTokensProvider range", "workspace/symbol": "workspaceSymbolProvider",
     "workspace/executeCommand": "executeCommandProvider",
 }
 NEEDED = {
@@ -78,6 +79,9 @@ NEEDED = {
     "workspace/inlayHint/refresh": "workspace inlayHint refreshSupport", "workspace/inlineValue/refresh": "workspace inlineValue refreshSupport",
     "workspace/diagnostic/refresh": "workspace diagnostics refreshSupport",
 }
+# "The method used to register for semantic tokens requests is `textDocument/semanticTokens`" (LSP 3.17, "Semantic Tokens"): the options of a
+# registration say which of the three.
+TOKENS_AS, COMMAND = "textDocument/semanticTokens", "workspace/executeCommand"
 # The rules that are judged only if their group is chosen.
 GROUPS = {
     "capabilities": {"NotAnnounced", "AnnouncedUnknown", "ClientCannot", "NeverOpened"}, "types": {"WrongType", "LooseType"},
@@ -179,7 +183,7 @@ class Capabilities:
     """What both sides of one session announced, and what goes against it."""
 
     def __init__(self):
-        self.server, self.client, self.registered, self.opened = {}, None, set(), set()
+        self.server, self.client, self.registered, self.unconfirmed, self.unannounced, self.opened = {}, None, [], [], set(), set()
 
     def see(self, way, message, asked):
         """The rule that a message of the server breaks, and against which message. `asked` is the request that it answers."""
@@ -194,23 +198,75 @@ class Capabilities:
             return ("NeverOpened", None) if is_unopened else None
         if sort != "reply" or not asked or asked["method"] not in PROVIDERS:
             return None
-        has = is_offered(dig(self.server, PROVIDERS[asked["method"]])) or asked["method"] in self.registered
+        has, had = self.announces(asked["method"]), asked["place"] not in self.unannounced
         if is_success(message):
-            return None if has else ("NotAnnounced", asked["place"])
-        return ("AnnouncedUnknown", asked["place"]) if has and dig(message, "error", "code") == -32601 else None
+            return None if has or had else ("NotAnnounced", asked["place"])
+        is_certain = has and had and not self.unconfirmed
+        return ("AnnouncedUnknown", asked["place"]) if is_certain and dig(message, "error", "code") == -32601 else None
 
-    def keep(self, way, message, asked):
-        sort, method = kind(message), message.get("method")
+    def announces(self, method):
+        return is_offered(dig(self.server, *PROVIDERS[method].split())) or any(registers(it, method) for _, it in self.registered)
+
+    def announces_for(self, method, params):
+        """The same of one request: a command is announced by its name."""
+        if method != COMMAND:
+            return self.announces(method)
+        lists = [dig(self.server, "executeCommandProvider", "commands")]
+        lists += [dig(it, "registerOptions", "commands") for _, it in self.registered if dig(it, "method") == COMMAND]
+        name = dig(params, "command")
+        return isinstance(name, str) and any(name in items(it) for it in lists)
+
+    def keep(self, place, way, message, asked):
+        sort, method, params = kind(message), message.get("method"), message.get("params")
+        if way == "->" and sort == "request" and method in PROVIDERS and not self.announces_for(method, params):
+            self.unannounced.add(place)
         if opens(way, message):
             self.client = dig(message, "params", "capabilities")
             self.client = {} if self.client is None else self.client
-        if way == "->" and sort == "note" and method == "textDocument/didOpen" and isinstance(dig(message, "params", "textDocument", "uri"), str):
-            self.opened.add(message["params"]["textDocument"]["uri"])
+        if way == "->" and sort == "note":
+            self.opened |= {it["uri"] for it in opened(method, params) if isinstance(dig(it, "uri"), str)}
+        if way == "->" and sort == "reply" and asked:
+            self.settle(asked["place"], is_success(message))
         if way == "<-" and sort == "request" and method == "client/registerCapability":
-            given = dig(message, "params", "registrations")
-            self.registered |= {it["method"] for it in given if isinstance(dig(it, "method"), str)} if isinstance(given, list) else set()
+            self.registered += [(place, it) for it in items(dig(params, "registrations"))]
+        if way == "<-" and sort == "request" and method == "client/unregisterCapability":
+            self.unconfirmed.append((place, items(dig(params, "unregisterations"))))
         if sort == "reply" and asked and asked["opens"] and is_success(message):
             self.server = dig(message, "result", "capabilities")
+
+    def settle(self, place, succeeds):
+        """The client replied to the request of the server at this place."""
+        if not succeeds:
+            self.registered = [it for it in self.registered if it[0] != place]
+            return
+        ended = [it for at, all in self.unconfirmed if at == place for it in all]
+        self.registered = [it for it in self.registered if not any(is_same(it[1], other) for other in ended)]
+        self.unconfirmed = [it for it in self.unconfirmed if it[0] != place]
+
+
+def items(value):
+    return value if isinstance(value, list) else []
+
+
+def is_same(one, other):
+    """Whether an unregistration is that of a registration."""
+    return all(isinstance(dig(one, it), str) and dig(one, it) == dig(other, it) for it in ("id", "method"))
+
+
+def registers(registration, method):
+    if method.startswith(TOKENS_AS + "/"):
+        part = method.removeprefix(TOKENS_AS + "/").split("/")
+        return dig(registration, "method") == TOKENS_AS and is_offered(dig(registration, "registerOptions", *part))
+    return dig(registration, "method") == method
+
+
+def opened(method, params):
+    """The documents that a notification of the client opens."""
+    if method == "textDocument/didOpen":
+        return [dig(params, "textDocument")]
+    if method == "notebookDocument/didOpen":
+        return [dig(params, "notebookDocument"), *items(dig(params, "cellTextDocuments"))]
+    return items(dig(params, "change", "cells", "structure", "didOpen")) if method == "notebookDocument/didChange" else []
 
 
 def is_offered(value):
@@ -244,7 +300,7 @@ class Judge:
             if self.capabilities:
                 against = self.capabilities.see(way, message, asked)
                 found += [(*against, True)] if against else []
-                self.capabilities.keep(way, message, asked)
+                self.capabilities.keep(place, way, message, asked)
             if self.shows_types is not None:
                 against = asked["place"] if asked else None
                 faults = types_judge.faults(way, message, asked)

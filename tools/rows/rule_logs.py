@@ -144,6 +144,100 @@ LOGS = {
 }
 
 
+# ---- what both sides announced, and edits in any order
+
+LEGEND = {"documentSelector": None, "legend": {"tokenTypes": ["a"], "tokenModifiers": []}}
+DYNAMIC = {
+    "textDocument": {
+        "hover": {"dynamicRegistration": True},
+        "semanticTokens": {"dynamicRegistration": True, "requests": {"full": True}, "tokenTypes": [], "tokenModifiers": [], "formats": ["relative"]},
+    },
+    "workspace": {"executeCommand": {"dynamicRegistration": True}}, "notebookDocument": {"synchronization": {}},
+}
+TOKENS = {"full": {}, "full/delta": {"previousResultId": "1"}, "range": {"range": span((0, 0), (1, 0))}}
+
+
+def between(server, *lines):
+    """A session of a client that takes registrations, with a server that announced this."""
+    asked = asks("->", 0, "initialize", {"processId": None, "rootUri": None, "capabilities": DYNAMIC})
+    return [asked, replies("<-", 0, {"capabilities": server}), *within(*lines)[2:]]
+
+
+def registers(key, method, options, name="r"):
+    return asks("<-", key, "client/registerCapability", {"registrations": [{"id": name, "method": method, "registerOptions": options}]})
+
+
+def unregisters(key, method, name="r"):
+    return asks("<-", key, "client/unregisterCapability", {"unregisterations": [{"id": name, "method": method}]})
+
+
+def each_token():
+    """One request of each method of semantic tokens, and its result."""
+    return [it for part, more in TOKENS.items() for it in (asks("->", 1, f"textDocument/semanticTokens/{part}", DOCUMENT | more), replies("<-", 1, {"data": []}))]
+
+
+def runs(name, error=None):
+    """A request of a command, and the reply."""
+    return [asks("->", 1, "workspace/executeCommand", {"command": name}), refuses("<-", 1, error) if error else HOVERED]
+
+
+def formats(*spans):
+    options = {"options": {"tabSize": 4, "insertSpaces": True}}
+    return [asks("->", 1, "textDocument/formatting", DOCUMENT | options), replies("<-", 1, [{"range": span(*it), "newText": "a"} for it in spans])]
+
+
+COMMANDS, TOLD, CONFIRMED = "workspace/executeCommand", [HOVER, HOVERED], replies("->", 2)
+UNTOLD, DECLINED = [HOVER, refuses("<-", 1, UNKNOWN)], refuses("->", 2, ERROR)
+ADDED = {"structure": {"array": {"start": 1, "deleteCount": 0}, "didOpen": [{"uri": "cell:2", "languageId": "a", "version": 1, "text": ""}]}}
+FIRST, SECOND, THIRD = ((0, 0), (0, 2)), ((0, 2), (1, 0)), ((4, 0), (4, 1))
+
+
+def publishes(uri):
+    return tells("<-", "textDocument/publishDiagnostics", {"uri": uri, "diagnostics": []})
+
+
+# A log, and what it breaks: the rule, and the number of the line.
+MORE = {
+    # "The method used to register for semantic tokens requests is `textDocument/semanticTokens`" (LSP 3.17, "Semantic Tokens").
+    "tokens_registered": (between({}, registers(2, "textDocument/semanticTokens", LEGEND | {"full": {"delta": True}, "range": {}}), CONFIRMED, *each_token()), []),
+    "tokens_registered_in_part": (between({}, registers(2, "textDocument/semanticTokens", LEGEND | {"full": {"delta": False}}), CONFIRMED, *each_token()),
+                                  [("NotAnnounced", 9), ("NotAnnounced", 11)]),
+    "tokens_announced_in_part": (between({"semanticTokensProvider": LEGEND | {"full": {"delta": True}, "range": False}}, *each_token()), [("NotAnnounced", 9)]),
+    "tokens_unknown": (between({"semanticTokensProvider": LEGEND | {"range": True}}, asks("->", 1, "textDocument/semanticTokens/range", DOCUMENT | TOKENS["range"]),
+                               refuses("<-", 1, UNKNOWN)), [("AnnouncedUnknown", 5)]),
+    # The texts of the cells open with their notebook, or are added to it (LSP 3.17, "Notebook Document Synchronization").
+    "notebook": (between(
+        {"notebookDocumentSync": {"notebookSelector": [{"notebook": "a"}]}},
+        tells("->", "notebookDocument/didOpen", {
+            "notebookDocument": {"uri": "file:///n", "notebookType": "a", "version": 1, "cells": [{"kind": 2, "document": "cell:1"}]},
+            "cellTextDocuments": [{"uri": "cell:1", "languageId": "a", "version": 1, "text": ""}]}),
+        publishes("cell:1"), publishes("file:///n"), publishes("cell:2"),
+        tells("->", "notebookDocument/didChange", {"notebookDocument": {"uri": "file:///n", "version": 2}, "change": {"cells": ADDED}}),
+        publishes("cell:2"), publishes("cell:3")), [("NeverOpened", 7), ("NeverOpened", 10)]),
+    # A server announces its commands by their names (LSP 3.17, "Execute a command").
+    "commands": (between(
+        {"executeCommandProvider": {"commands": ["a"]}}, registers(2, COMMANDS, {"commands": ["b"]}), CONFIRMED,
+        *runs("a"), *runs("b"), *runs("c", UNKNOWN), *runs("a", UNKNOWN), *runs("b", UNKNOWN)), [("AnnouncedUnknown", 13), ("AnnouncedUnknown", 15)]),
+    "command_registered_later": (between(
+        {"executeCommandProvider": {"commands": ["a"]}}, *runs("b", UNKNOWN), registers(2, COMMANDS, {"commands": ["b"]}), CONFIRMED, *runs("b", UNKNOWN)),
+        [("AnnouncedUnknown", 9)]),
+    # A registration ends when the client confirms that (LSP 3.17, "Unregister Capability").
+    "unregistered": (between({}, registers(2, "textDocument/hover", {}), CONFIRMED, *TOLD, unregisters(2, "textDocument/hover"), CONFIRMED, *TOLD, *UNTOLD),
+                     [("NotAnnounced", 11)]),
+    "unregistered_meanwhile": (between(
+        {}, registers(2, "textDocument/hover", {}), CONFIRMED, unregisters(2, "textDocument/hover"), *UNTOLD, HOVER, CONFIRMED, HOVERED), []),
+    "unregistered_other": (between({}, registers(2, "textDocument/hover", {}), CONFIRMED, unregisters(2, "textDocument/hover", "s"), CONFIRMED, *TOLD, *UNTOLD),
+                           [("AnnouncedUnknown", 11)]),
+    "unregistration_refused": (between({}, registers(2, "textDocument/hover", {}), CONFIRMED, unregisters(2, "textDocument/hover"), DECLINED, *TOLD, *UNTOLD), []),
+    # A client that refuses a registration does not register (LSP 3.17, "Register Capability").
+    "registration_refused": (between({}, registers(2, "textDocument/hover", {}), DECLINED, *UNTOLD, *TOLD), [("NotAnnounced", 9)]),
+    # Edits may come in any order. "Text edits ranges must never overlap" (LSP 3.17, "TextEdit[]").
+    "edits_in_any_order": (between(
+        {"documentFormattingProvider": True}, *formats(THIRD, SECOND, FIRST), *formats(SECOND, THIRD, FIRST), *formats(THIRD, FIRST, SECOND, ((0, 1), (0, 1)))),
+        [("EditsOverlap", 9)]),
+}
+
+
 def fraction_ids():
     """Requests whose ids have a fraction or an exponent, and replies to them: the last reply has the id of no request."""
     ids = [("1.5", "15e-1"), ("1e3", "1000"), ("2", "2.0"), ("2.5", "2.25")]
@@ -159,3 +253,8 @@ def files():
         for name, lines in zip(("kept", "broken"), both):
             made[f"{rule}_{name}.lsp"] = b"".join(it if isinstance(it, bytes) else it.encode() for it in lines)
     return made
+
+
+def more():
+    """More logs, by their names, and what they break."""
+    return {f"{name}.lsp": ("".join(lines).encode(), broken) for name, (lines, broken) in MORE.items()}

@@ -1,45 +1,28 @@
 -- What a client and a server announce to each other, and what goes against it (LSP 3.17, "Initialize Request",
 -- "Register Capability" and "PublishDiagnostics Notification").
-use Rattle.std.specs.Prelude.{ℕ, ℤ, negsuc, Bool, true, false, not, ◌&&◌, ◌||◌, List, [], ◌∷◌, Option, Some, None, Ok}
-use Rattle.std.specs.Prelude.{option_and_then, unwrap_or, if◌then◌else◌, codes}
+use Rattle.std.specs.Prelude.{ℕ, ℤ, negsuc, Bool, true, false, not, ◌&&◌, ◌||◌, ◌==◌, List, [], ◌∷◌, Option, Some, None}
+use Rattle.std.specs.Prelude.{Ok, option_and_then, unwrap_or, if◌then◌else◌, codes}
 use Rattle.std.specs.List.{list_any}
 use Rattle.std.specs.Ordering.{int_eq}
-use Rattle.serde_json.specs.Data.{Data, Items, no_items, item, null, boolean}
-use Rattle.serde_json.specs.Find.{get, as_number, as_i64, as_array, pointer}
+use Rattle.std.specs.Str.{bytes_eq}
+use Rattle.serde_json.specs.Data.{Data, null}
+use Rattle.serde_json.specs.Find.{get, as_number, as_i64, pointer}
 use Rattle.lsp_message.specs.Message.{Message, request, notification, response}
-use Rattle.lsp_watch.specs.Documents.{params_in, uri_in, text_in, is_text}
-use Rattle.lsp_watch.specs.Log.{Log, Open, Finding, asks, tells, from_client, is_success, is_initialize, waiting}
-use Rattle.lsp_watch.specs.Log.{answers_initialize}
+use Rattle.lsp_watch.specs.Documents.{params_in, text_in, is_text}
+use Rattle.lsp_watch.specs.Log.{Log, Open, Finding, tells, from_client, is_success, is_initialize, waiting}
+use Rattle.lsp_watch.specs.Log.{answers_initialize, is_some_such}
 use Rattle.lsp_watch.specs.declared.direction.Direction.{Direction}
 use Rattle.lsp_watch.specs.declared.direction.Direction.TheVariants.{ToServer, ToClient}
 use Rattle.lsp_watch.specs.declared.rule.Rule.TheVariants.{NotAnnounced, AnnouncedUnknown, ClientCannot, NeverOpened}
 use Rattle.lsp_capabilities.specs.Methods.{provider, needed}
+use Rattle.lsp_capabilities.specs.Registrations.{is_offered, any_item, items_of, lists, registers_method}
+use Rattle.lsp_capabilities.specs.Registrations.{registers_command, is_registered, is_unconfirmed}
 
 -- ---- what a tree says
-
--- a capability is announced by true, or by options; not by false or null
-abbrev pub is_offered : Option Data → Bool
-is_offered None = false
-is_offered (Some null) = false
-is_offered (Some (boolean b)) = b
-is_offered (Some d) = true
 
 -- the capabilities in the params of `initialize`, and in its result
 abbrev pub capabilities_in : Data → Data
 capabilities_in d = unwrap_or (get (codes "capabilities") d) null
-
-abbrev pub any_item : (Data → Bool) → Items → Bool
-any_item such no_items = false
-any_item such (item d ds) = such d || any_item such ds
-
--- a registration of this method
-abbrev pub is_of : List ℕ → Data → Bool
-is_of method d = is_text method (text_in (codes "method") d)
-
--- these params of `client/registerCapability` register this method
-abbrev pub registers : List ℕ → Data → Bool
-registers method params = any_item (is_of method)
-    (unwrap_or (option_and_then as_array (get (codes "registrations") params)) no_items)
 
 -- the code of an error
 abbrev pub code_in : Data → Option ℤ
@@ -72,44 +55,85 @@ client_capabilities [] = null
 client_capabilities (p ∷ before) = if is_initialize p then capabilities_in (params_in p.message)
     else client_capabilities before
 
--- the server asked the client to register something
-abbrev pub is_registration : Direction → Message → Bool
-is_registration direction m = not (from_client direction) && asks (codes "client/registerCapability") m
+abbrev pub uri_of : Option Data → Option (List ℕ)
+uri_of d = option_and_then (text_in (codes "uri")) d
 
--- the server registered this method
-abbrev pub is_registered : List ℕ → Log → Bool
-is_registered method [] = false
-is_registered method (p ∷ before) =
-    is_registered method before || (is_registration p.direction p.message && registers method (params_in p.message))
+-- a list of documents has this URI
+abbrev pub has_uri : List ℕ → Option Data → Bool
+has_uri uri d = any_item (λ it. is_text uri (text_in (codes "uri") it)) (items_of d)
 
--- the client opens a document
-abbrev pub opens : Direction → Message → Bool
-opens direction m = from_client direction && tells (codes "textDocument/didOpen") m
+-- the texts of the cells that are added to a notebook
+abbrev pub added_in : Data → Option Data
+added_in params = option_and_then (get (codes "didOpen")) (option_and_then (get (codes "structure"))
+    (option_and_then (get (codes "cells")) (get (codes "change") params)))
+
+-- what the client notifies of as opened: a text document, a notebook with the texts of its cells, or cells that it adds
+abbrev pub opens_in : List ℕ → List ℕ → Data → Bool
+opens_in uri method params = if bytes_eq method (codes "textDocument/didOpen")
+    then is_text uri (uri_of (get (codes "textDocument") params))
+    else if bytes_eq method (codes "notebookDocument/didOpen")
+    then has_uri uri (get (codes "cellTextDocuments") params)
+    || is_text uri (uri_of (get (codes "notebookDocument") params))
+    else if bytes_eq method (codes "notebookDocument/didChange")
+    then has_uri uri (added_in params)
+    else false
+
+-- the client opens the document of this URI (LSP 3.17, "DidOpenTextDocument Notification", "DidOpenNotebookDocument
+-- Notification" and "DidChangeNotebookDocument Notification")
+abbrev pub opens : List ℕ → Direction → Message → Bool
+opens uri direction (notification method params) = from_client direction && opens_in uri method params
+opens uri direction (request i method params) = false
+opens uri direction (response i outcome) = false
 
 -- the client opened the document of this URI
 abbrev pub was_opened : List ℕ → Log → Bool
 was_opened uri [] = false
-was_opened uri (p ∷ before) = if opens p.direction p.message && is_text uri (uri_in (params_in p.message)) then true
-    else was_opened uri before
+was_opened uri (p ∷ before) = opens uri p.direction p.message || was_opened uri before
 
--- the server announced or registered the method, whose member of its capabilities this is
+-- the server announced or registered the method, for which its capabilities have this path
 abbrev pub is_announced : Log → List ℕ → List ℕ → Bool
-is_announced before method member =
-    is_offered (get member (server_capabilities before)) || is_registered method before
+is_announced before method path =
+    is_offered (pointer path (server_capabilities before))
+    || is_registered (λ place r. registers_method method r) before
+
+-- the server announced or registered the command (LSP 3.17, "Execute a command")
+abbrev pub is_command_announced : Log → List ℕ → Bool
+is_command_announced before command = lists command (pointer (codes "/executeCommandProvider/commands")
+    (server_capabilities before)) || is_registered (λ place r. registers_command command r) before
+
+-- A request is for what the server announced or registered. A command is announced by its name.
+abbrev pub is_announced_for : Log → List ℕ → Data → List ℕ → Bool
+is_announced_for before method params path = if bytes_eq method (codes "workspace/executeCommand")
+    then is_some_such (is_command_announced before) (text_in (codes "command") params)
+    else is_announced before method path
+
+-- the client asks for what the server neither announced nor registered
+abbrev pub asks_unannounced : Log → Direction → Message → Bool
+asks_unannounced before direction (request i method params) = from_client direction
+    && is_some_such (λ path. not (is_announced_for before method params path)) (provider method)
+asks_unannounced before direction (notification method params) = false
+asks_unannounced before direction (response i outcome) = false
+
+-- a request that passed at this place was such a one
+abbrev pub asked_unannounced : ℕ → Log → Bool
+asked_unannounced place [] = false
+asked_unannounced place (p ∷ before) = (p.place == place && asks_unannounced before p.direction p.message)
+    || asked_unannounced place before
 
 -- ---- what goes against it
 
--- a reply to a request, by whether the method was announced, whether there is a result, and the whole reply
-abbrev pub answer_finding : Bool → Bool → Data → ℕ → Option Finding
-answer_finding true true d place = None
-answer_finding true false d place = if says_unknown d then Some (AnnouncedUnknown, Some place) else None
-answer_finding false true d place = Some (NotAnnounced, Some place)
-answer_finding false false d place = None
+-- A reply to a request, by whether the server has announced what was asked for, whether it had not when the client
+-- asked, whether no registration is about to end, whether there is a result, and the whole reply
+abbrev pub answer_finding : Bool → Bool → Bool → Bool → Data → ℕ → Option Finding
+answer_finding true false true false d place = if says_unknown d then Some (AnnouncedUnknown, Some place) else None
+answer_finding false true is_certain true d place = Some (NotAnnounced, Some place)
+answer_finding is_announced is_odd is_certain succeeds d place = None
 
 -- a reply of the server to this request of the client
 abbrev pub reply_finding : Log → Bool → Data → Open → Option Finding
-reply_finding before succeeds d o = option_and_then (λ member.
-    answer_finding (is_announced before o.method member) succeeds d o.place) (provider o.method)
+reply_finding before succeeds d o = option_and_then (λ path.
+    answer_finding (is_announced before o.method path) (asked_unannounced o.place before)
+    (not (is_unconfirmed (λ place params. true) before)) succeeds d o.place) (provider o.method)
 
 -- a request of the server
 abbrev pub request_finding : Log → List ℕ → Option Finding

@@ -1,3 +1,4 @@
 pub mod Announced
 pub mod Knows
 pub mod Methods
+pub mod Registrations

@@ -1,34 +1,37 @@
 // What the two sides announced, and what goes against it.
-ghost use Rattle.std.specs.BTreeSet.{contains_text};
-ghost use Rattle.std.specs.List.{list_any};
-ghost use Rattle.std.specs.Str.{bytes_eq};
-ghost use Rattle.std.specs.Prelude.{◌≡◌, true, ◌∷◌, ◌||◌, ◌&&◌, [], ℕ, List, IfOk, OnOk, option_map, if◌then◌else◌};
+ghost use Rattle.std.specs.BTreeSet.{contains};
+ghost use Rattle.std.specs.Ordering.{nat_cmp};
+ghost use Rattle.std.specs.Prelude.{◌≡◌, ◌∷◌, ◌||◌, ◌&&◌, ◌==◌, [], ℕ, OnOk, option_map, unwrap_or, if◌then◌else◌};
+ghost use Rattle.serde_json.specs.Data.{null};
 ghost use Rattle.serde_json.specs.View.{view};
-ghost use Rattle.lsp_watch.specs.Documents.{params_in, uri_in, is_text};
+ghost use Rattle.lsp_watch.specs.Documents.{params_in};
 ghost use Rattle.lsp_watch.specs.Entries.{entry_view};
-ghost use Rattle.lsp_watch.specs.Log.{Log, Open, passed, answers_initialize as replies_to_it, is_success as has_result, asks as is_request, tells as is_notification, is_initialize as begins};
+ghost use Rattle.lsp_watch.specs.Log.{Log, passed, answers_initialize as replies_to_it, is_success as has_result, asks as is_request, tells as is_notification, is_initialize as begins};
 ghost use Rattle.lsp_watch.specs.Saw.{Saw};
-ghost use Rattle.lsp_watch.specs.Verdicts.{as_breach};
-ghost use Rattle.lsp_capabilities.specs.Announced.{registers as registers_it, is_registered as was_registered, was_opened as opened_before, is_announced as announced_before, is_registration, opens, capabilities_in as capabilities_of, result_in, capability_finding, known_finding, reply_finding, request_finding, diagnostics_finding, answer_finding as finding_of};
+ghost use Rattle.lsp_capabilities.specs.Announced.{is_announced as announced_before, is_command_announced as command_announced_before, is_announced_for as announced_for, asks_unannounced as unannounced_before, capabilities_in as capabilities_of, result_in, capability_finding, known_finding, reply_finding, request_finding, diagnostics_finding, answer_finding as finding_of};
 ghost use Rattle.lsp_capabilities.specs.Knows.{Knows};
 
 use crate::methods::{needed, provider};
-use crate::params::{capabilities_in, is_offered, registers, says_unknown, text_in};
-use lsp_watch::{Asked, Direction, Entry, Kind, Rule, Watch, document_uri};
+use crate::opened::keep_opened;
+use crate::params::{capabilities_in, is_offered, lists, says_unknown, text_in};
+use crate::registrations::Registrations;
+use lsp_watch::{Asked, Direction, Entry, Kind, Rule, Watch};
 use serde_json::Value;
 use std::alloc::{AllocError, Global};
 use std::collections::BTreeSet;
 
 /// Keeps what a client and a server announce to each other in one session, and says which messages do not fit it.
 ///
-/// It stands beside a `Watch`, which sees the same messages. It keeps the capabilities of both sides, the registrations, and the URIs
-/// that the client opened. So memory follows these, and not what passed.
+/// It stands beside a `Watch`, which sees the same messages. It keeps the capabilities of both sides, the registrations, the URIs
+/// that the client opened, and the places of the requests for what was not announced. So memory follows these, and not what passed.
 #[derive(Debug, Drop)]
 pub struct Announced {
     alloc: Global,
     server: Value,
     client: Value,
-    registered: Vec<Value>,
+    registrations: Registrations,
+    /// The places of the client's requests for what the server neither announced nor registered.
+    unannounced: BTreeSet<u64>,
     opened: BTreeSet<String>,
     /// Whether an `initialize` passed.
     is_known: bool,
@@ -43,7 +46,8 @@ impl Announced {
             alloc,
             server: Value::Null,
             client: Value::Null,
-            registered: Vec::new(alloc),
+            registrations: Registrations::new(alloc),
+            unannounced: BTreeSet::new(alloc),
             opened: BTreeSet::new(alloc),
             is_known: false,
         }
@@ -121,21 +125,56 @@ impl Announced {
     ) -> Option<(Rule, Option<u64>)>
         ensures { (log : Log) → Knows self.now log → result ≡ reply_finding log succeeds (view reply.now) asked.now }
     {
-        let member = provider(asked.method.as_str())?;
-        let is_announced = self.is_announced(asked.method.as_str(), member);
-        answer_breaks(is_announced, succeeds, reply, asked.place)
+        let path = provider(asked.method.as_str())?;
+        let standing = Standing {
+            is_announced: self.is_announced(asked.method.as_str(), path),
+            was_unannounced: self.unannounced.contains(&asked.place),
+            is_certain: self.registrations.is_certain(),
+        };
+        standing.breaks(succeeds, reply, asked.place)
     }
 
-    fn is_announced(&self, method: &str, member: &str) -> bool
-        ensures { (log : Log) → Knows self.now log → result ≡ announced_before log method.now member.now }
+    fn is_announced(&self, method: &str, path: &str) -> bool
+        ensures { (log : Log) → Knows self.now log → result ≡ announced_before log method.now path.now }
     {
-        is_offered(self.server.get(member)) || self.is_registered(method)
+        is_offered(self.server.pointer(path)) || self.registrations.has_method(method)
     }
 
-    fn is_registered(&self, method: &str) -> bool
-        ensures { result ≡ list_any (λ params. registers_it method.now (view params)) self.now.registered.items }
+    fn is_command_announced(&self, command: &str) -> bool
+        ensures { (log : Log) → Knows self.now log → result ≡ command_announced_before log command.now }
     {
-        self.registered.iter().any(|it| registers(it, method))
+        lists(
+            self.server.pointer("/executeCommandProvider/commands"),
+            command,
+        ) || self.registrations.has_command(command)
+    }
+
+    /// Returns whether a request is for what the server announced or registered. A command is announced by its name.
+    fn is_announced_for(&self, method: &str, params: Option<&Value>, path: &str) -> bool
+        ensures { (log : Log) → Knows self.now log → result ≡ announced_for log method.now
+            (unwrap_or (option_map (λ v. view v.now) params.entry) null) path.now }
+    {
+        if method != "workspace/executeCommand" {
+            return self.is_announced(method, path);
+        }
+        match params.and_then(|it| text_in(it, "command")) {
+            Some(command) => self.is_command_announced(command),
+            None => false,
+        }
+    }
+
+    /// Returns whether the client asks for what the server neither announced nor registered.
+    fn asks_unannounced(&self, direction: Direction, message: &Entry) -> bool
+        ensures { (log : Log) → Knows self.now log
+            → result ≡ unannounced_before log direction (entry_view message.now) }
+    {
+        let (Direction::ToServer, Kind::Request(_)) = (direction, message.kind()) else {
+            return false;
+        };
+        match provider(message.method()) {
+            Some(path) => !self.is_announced_for(message.method(), message.params(), path),
+            None => false,
+        }
     }
 
     /// Keeps what a message announces. The watch saw the messages before it.
@@ -143,17 +182,20 @@ impl Announced {
     /// The error means that an allocation failed. Do not use the value after that: it may be incomplete.
     pub fn keep(
         &mut self,
+        place: u64,
         watch: &Watch,
         direction: Direction,
         message: &Entry,
     ) -> Result<(), AllocError>
-        ensures { (log : Log) (place : ℕ) → Saw watch.now log → Knows self.old log
+        ensures { (log : Log) → Saw watch.now log → Knows self.old log
             → OnOk result (Knows self.new (passed direction place (entry_view message.now) ∷ log)) }
     {
+        let asks = self.asks_unannounced(direction, message);
+        add_if(asks, &mut self.unannounced, place)?;
         self.keep_server(watch, direction, message)?;
         self.keep_client(direction, message)?;
-        self.keep_registration(direction, message)?;
-        self.keep_opened(direction, message)?;
+        self.registrations.keep(place, watch, direction, message)?;
+        keep_opened(self.alloc, &mut self.opened, direction, message)?;
         Ok(())
     }
 
@@ -167,8 +209,8 @@ impl Announced {
             ≡ (if replies_to_it log (passed direction place (entry_view message.now))
             && has_result (entry_view message.now)
             then capabilities_of (result_in (entry_view message.now)) else view self.old.server)) }
-        ensures same { (self.new.client ≡ self.old.client) × (self.new.registered ≡ self.old.registered)
-            × (self.new.opened ≡ self.old.opened) × (self.new.is_known ≡ self.old.is_known) }
+        ensures same { (self.new.client ≡ self.old.client) × (self.new.registrations ≡ self.old.registrations)
+            × (self.new.unannounced ≡ self.old.unannounced) × (self.new.opened ≡ self.old.opened) × (self.new.is_known ≡ self.old.is_known) }
     {
         if answers_initialize(watch, direction, message) {
             self.server = capabilities_in(message.tree().get("result"))?;
@@ -182,8 +224,8 @@ impl Announced {
             then capabilities_of (params_in (entry_view message.now)) else view self.old.client)) }
         ensures known { (place : ℕ) → OnOk result (self.new.is_known
             ≡ (begins (passed direction place (entry_view message.now)) || self.old.is_known)) }
-        ensures same { (self.new.server ≡ self.old.server) × (self.new.registered ≡ self.old.registered)
-            × (self.new.opened ≡ self.old.opened) }
+        ensures same { (self.new.server ≡ self.old.server) × (self.new.registrations ≡ self.old.registrations)
+            × (self.new.unannounced ≡ self.old.unannounced) × (self.new.opened ≡ self.old.opened) }
     {
         if direction.is_from_client() && asks(message, "initialize") {
             self.client = capabilities_in(message.params())?;
@@ -191,50 +233,43 @@ impl Announced {
         }
         Ok(())
     }
+}
 
-    fn keep_registration(&mut self, direction: Direction, message: &Entry) -> Result<(), AllocError>
-        ensures registered { (method : List ℕ) → OnOk result (list_any (λ params. registers_it method (view params)) self.new.registered.items
-            ≡ (list_any (λ params. registers_it method (view params)) self.old.registered.items
-            || (is_registration direction (entry_view message.now) && registers_it method (params_in (entry_view message.now))))) }
-        ensures same { (self.new.server ≡ self.old.server) × (self.new.client ≡ self.old.client)
-            × (self.new.opened ≡ self.old.opened) × (self.new.is_known ≡ self.old.is_known) }
-    {
-        if direction.is_from_client() || !asks(message, "client/registerCapability") {
-            return Ok(());
-        }
-        if let Some(params) = message.params() {
-            let params = params.clone()?;
-            self.registered.push(params)?;
-        }
-        Ok(())
-    }
+/// How the server stands to what the client asked for.
+#[derive(Clone, Copy)]
+struct Standing {
+    /// Whether it is announced or registered now.
+    is_announced: bool,
+    /// Whether it was neither when the client asked.
+    was_unannounced: bool,
+    /// Whether no registration is about to end.
+    is_certain: bool,
+}
 
-    fn keep_opened(&mut self, direction: Direction, message: &Entry) -> Result<(), AllocError>
-        ensures opened { OnOk result ((uri : List ℕ) → contains_text self.new.opened uri
-            ≡ (if opens direction (entry_view message.now) && is_text uri (uri_in (params_in (entry_view message.now)))
-            then true else contains_text self.old.opened uri)) }
-        ensures same { (self.new.server ≡ self.old.server) × (self.new.client ≡ self.old.client)
-            × (self.new.registered ≡ self.old.registered) × (self.new.is_known ≡ self.old.is_known) }
+impl Standing {
+    /// Returns what a reply goes against, by whether it has a result.
+    fn breaks(self, succeeds: bool, reply: &Value, place: u64) -> Option<(Rule, Option<u64>)>
+        ensures { result ≡ finding_of self.is_announced self.was_unannounced self.is_certain succeeds (view reply.now) place }
     {
-        if !direction.is_from_client() || !tells(message, "textDocument/didOpen") {
-            return Ok(());
-        }
-        match document_uri(message) {
-            Some(uri) => self.open(uri),
-            None => Ok(()),
+        match (self.is_announced, self.was_unannounced, succeeds) {
+            (true, false, false) if self.is_certain && says_unknown(reply) => {
+                Some((Rule::AnnouncedUnknown, Some(place)))
+            }
+            (false, true, true) => Some((Rule::NotAnnounced, Some(place))),
+            _ => None,
         }
     }
+}
 
-    fn open(&mut self, uri: &str) -> Result<(), AllocError>
-        ensures opened { OnOk result ((other : List ℕ) → contains_text self.new.opened other
-            ≡ (if bytes_eq uri.now other then true else contains_text self.old.opened other)) }
-        ensures same { (self.new.server ≡ self.old.server) × (self.new.client ≡ self.old.client)
-            × (self.new.registered ≡ self.old.registered) × (self.new.is_known ≡ self.old.is_known) }
-    {
-        let uri = String::from_str(self.alloc, uri)?;
-        self.opened.insert(uri)?;
-        Ok(())
+/// Adds a place to a set, if a message is to be kept.
+fn add_if(is_kept: bool, places: &mut BTreeSet<u64>, place: u64) -> Result<(), AllocError>
+    ensures { OnOk result ((other : ℕ) → contains nat_cmp places.new other
+        ≡ ((place == other && is_kept) || contains nat_cmp places.old other)) }
+{
+    if is_kept {
+        places.insert(place)?;
     }
+    Ok(())
 }
 
 /// Returns whether a message is a result of `initialize`.
@@ -248,22 +283,6 @@ fn answers_initialize(watch: &Watch, direction: Direction, message: &Entry) -> b
     match watch.waiting(direction.other(), id) {
         Some(asked) => asked.opens_session() && *succeeds,
         None => false,
-    }
-}
-
-/// Returns what a reply goes against, by whether its method was announced and whether there is a result.
-fn answer_breaks(
-    is_announced: bool,
-    succeeds: bool,
-    reply: &Value,
-    place: u64,
-) -> Option<(Rule, Option<u64>)>
-    ensures { result ≡ finding_of is_announced succeeds (view reply.now) place }
-{
-    match (is_announced, succeeds) {
-        (true, false) if says_unknown(reply) => Some((Rule::AnnouncedUnknown, Some(place))),
-        (false, true) => Some((Rule::NotAnnounced, Some(place))),
-        (true, _) | (false, false) => None,
     }
 }
 

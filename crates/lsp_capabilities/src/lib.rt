@@ -4,6 +4,8 @@
 
 mod announced;
 mod methods;
+mod opened;
 mod params;
+mod registrations;
 
 pub use announced::Announced;

@@ -1,11 +1,11 @@
 // What the params and results of messages say of capabilities.
-ghost use Rattle.std.specs.List.{list_any};
-ghost use Rattle.std.specs.Prelude.{◌≡◌, IfOk, option_map, option_and_then, unwrap_or, codes};
+ghost use Rattle.std.specs.Prelude.{◌≡◌, IfOk, option_map, unwrap_or};
 ghost use Rattle.serde_json.specs.Data.{null};
-ghost use Rattle.serde_json.specs.Find.{get, as_array as as_list};
+ghost use Rattle.serde_json.specs.Find.{as_str as as_text};
 ghost use Rattle.serde_json.specs.View.{view, items_view};
-ghost use Rattle.lsp_watch.specs.Documents.{text_in as text_of};
-ghost use Rattle.lsp_capabilities.specs.Announced.{any_item, is_offered as offers, is_of as names_it, registers as registers_it, code_in as code_of, says_unknown as is_unknown, capabilities_in as capabilities_of};
+ghost use Rattle.lsp_watch.specs.Documents.{text_in as text_of, is_text as is_the_text};
+ghost use Rattle.lsp_capabilities.specs.Announced.{code_in as code_of, says_unknown as is_unknown, capabilities_in as capabilities_of};
+ghost use Rattle.lsp_capabilities.specs.Registrations.{any_item, items_of, lists as lists_text, is_offered as offers};
 
 use serde_json::Value;
 use std::alloc::AllocError;
@@ -31,40 +31,39 @@ pub fn capabilities_in(tree: Option<&Value>) -> Result<Value, AllocError>
     }
 }
 
-/// Returns whether params of `client/registerCapability` register a method.
-pub fn registers(params: &Value, method: &str) -> bool
-    ensures { result ≡ registers_it method.now (view params.now) }
+/// Returns the items of a list. What is no list has none.
+pub fn items_in(list: Option<&Value>) -> &[Value]
+    ensures { items_view result.now ≡ items_of (option_map (λ v. view v.now) list.entry) }
 {
-    match registrations_in(params) {
-        Some(registrations) => lists(registrations.as_slice(), method),
-        None => false,
+    match list.and_then(Value::as_array) {
+        Some(items) => items.as_slice(),
+        None => &[],
     }
 }
 
-fn registrations_in(params: &Value) -> Option<&Vec<Value>>
-    ensures { option_map (λ v. items_view v.now.items) result
-        ≡ option_and_then as_list (get (codes "registrations") (view params.now)) }
+/// Returns whether a list has this text.
+pub fn lists(list: Option<&Value>, text: &str) -> bool
+    ensures { result ≡ lists_text text.now (option_map (λ v. view v.now) list.entry) }
 {
-    params.get("registrations")?.as_array()
+    any_text(items_in(list), text)
 }
 
-fn lists(registrations: &[Value], method: &str) -> bool
-    ensures { result ≡ any_item (names_it method.now) (items_view registrations.now) }
+fn any_text(items: &[Value], text: &str) -> bool
+    ensures { result ≡ any_item (λ it. is_the_text text.now (as_text it)) (items_view items.now) }
 {
-    any_is_of(registrations, method)
+    for item in items {
+        if is_text(item, text) {
+            return true;
+        }
+    }
+    false
 }
 
-fn any_is_of(registrations: &[Value], method: &str) -> bool
-    ensures { result ≡ list_any (λ v. names_it method.now (view v)) registrations.now }
+fn is_text(item: &Value, text: &str) -> bool
+    ensures { result ≡ is_the_text text.now (as_text (view item.now)) }
 {
-    registrations.iter().any(|it| is_of(it, method))
-}
-
-fn is_of(registration: &Value, method: &str) -> bool
-    ensures { result ≡ names_it method.now (view registration.now) }
-{
-    match text_in(registration, "method") {
-        Some(name) => name == method,
+    match item.as_str() {
+        Some(it) => it == text,
         None => false,
     }
 }
@@ -74,6 +73,16 @@ pub fn text_in<'a>(tree: &'a Value, name: &str) -> Option<&'a str>
     ensures { option_map (λ s. s.now) result ≡ text_of name.now (view tree.now) }
 {
     tree.get(name)?.as_str()
+}
+
+/// Returns whether a member is this text.
+pub fn has_text(tree: &Value, name: &str, text: &str) -> bool
+    ensures { result ≡ is_the_text text.now (text_of name.now (view tree.now)) }
+{
+    match text_in(tree, name) {
+        Some(it) => it == text,
+        None => false,
+    }
 }
 
 /// Returns whether a reply says that its sender does not know the method (JSON-RPC 2.0, section 5.1).

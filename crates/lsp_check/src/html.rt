@@ -125,7 +125,7 @@ impl Page {
         let mut passing = Passing::new(found.direction, message);
         passing.time = found.time;
         passing.took = found.took;
-        let seen = sessions.see(log.name(), found.line, &passing, report, &mut self.reported);
+        let seen = sessions.see(log, found.line, &passing, report, &mut self.reported);
         drop(passing);
         seen?;
         Ok(self.keep_reported()?)

@@ -240,7 +240,7 @@ impl Judgement {
             × Judges self.new
             (goes_in j place passing.now.direction (option_map entry_view passing.now.message.entry))) }
     {
-        let against = self.announce(passing)?;
+        let against = self.announce(place, passing)?;
         let breaches = self
             .watch
             .observe(place, passing.direction, &passing.message)?;
@@ -248,11 +248,15 @@ impl Judgement {
     }
 
     /// Returns what a message goes against, of what was announced before it, and keeps what it announces.
-    fn announce(&mut self, passing: &Passing) -> Result<Option<(Rule, Option<u64>)>, AllocError>
+    fn announce(
+        &mut self,
+        place: u64,
+        passing: &Passing,
+    ) -> Result<Option<(Rule, Option<u64>)>, AllocError>
         ensures found { (j : Judged) → Judges self.old j → IfOk result (λ found. map (as_breach true) (option_to_list found)
             ≡ against j.announces j.log passing.now.direction (option_map entry_view passing.now.message.entry)
             (option_map (λ e. view e.tree) passing.now.message.entry)) }
-        ensures knows { (j : Judged) (place : ℕ) → Judges self.old j → OnOk result (j.announces ≡ true → Knows self.new.announced
+        ensures knows { (j : Judged) → Judges self.old j → OnOk result (j.announces ≡ true → Knows self.new.announced
             (entered passing.now.direction place (option_map entry_view passing.now.message.entry) j.log)) }
         ensures same { (self.new.watch ≡ self.old.watch) × (self.new.is_begun ≡ self.old.is_begun)
             × (self.new.is_broken ≡ self.old.is_broken) × (self.new.is_matched ≡ self.old.is_matched)
@@ -265,7 +269,8 @@ impl Judgement {
             return Ok(None);
         };
         let found = self.announced.breaks(&self.watch, passing.direction, entry);
-        self.announced.keep(&self.watch, passing.direction, entry)?;
+        self.announced
+            .keep(place, &self.watch, passing.direction, entry)?;
         Ok(found)
     }
 

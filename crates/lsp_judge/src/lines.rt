@@ -74,7 +74,7 @@ impl Lines {
         passing.types = self.log.shows_types();
         let seen = self
             .sessions
-            .see(self.log.name(), found.line, &passing, report, out);
+            .see(&self.log, found.line, &passing, report, out);
         drop(passing);
         seen
     }

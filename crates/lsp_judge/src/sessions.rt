@@ -2,6 +2,7 @@
 use crate::choice::Choice;
 use crate::full::FullJudgement;
 use crate::judgement::Ends;
+use crate::log::Log;
 use crate::passed::Passing;
 use crate::report::Report;
 use anyhow::{Result, ensure};
@@ -40,16 +41,18 @@ impl Sessions {
         self.all.is_empty()
     }
 
-    /// Judges one more message of a server.
+    /// Judges one more message of a server: the last one of a log. A log without params shows no capability, so the rules of capabilities
+    /// are not judged there.
     pub fn see<W: Write>(
         &mut self,
-        name: &[u8],
+        log: &Log,
         place: u64,
         passing: &Passing,
         report: &Report<'_>,
         out: &mut W,
     ) -> Result<()> {
-        let at = self.place_of(name, report.choice)?;
+        let announces = report.choice.capabilities && !log.is_short();
+        let at = self.place_of(log.name(), announces, report.choice)?;
         match self.all.get_mut(at) {
             Some(session) => session.judged.see(place, passing, report, out),
             None => Ok(()),
@@ -57,22 +60,22 @@ impl Sessions {
     }
 
     /// The place of a server in the list. A new one is added.
-    fn place_of(&mut self, name: &[u8], choice: &Choice) -> Result<usize> {
+    fn place_of(&mut self, name: &[u8], announces: bool, choice: &Choice) -> Result<usize> {
         match self.all.iter().position(|it| it.name.as_slice() == name) {
             Some(at) => Ok(at),
             None => {
                 let at = self.all.len();
                 ensure!(at < MOST, "more than {MOST} servers in one log");
-                self.add(name, choice)?;
+                self.add(name, announces, choice)?;
                 Ok(at)
             }
         }
     }
 
-    fn add(&mut self, name: &[u8], choice: &Choice) -> Result<(), AllocError> {
+    fn add(&mut self, name: &[u8], announces: bool, choice: &Choice) -> Result<(), AllocError> {
         let name = Vec::from_slice(self.alloc, name)?;
         let model = choice.model(self.alloc)?;
-        let judged = FullJudgement::new(self.alloc, choice.capabilities, model);
+        let judged = FullJudgement::new(self.alloc, announces, model);
         Ok(self.all.push(Session { name, judged })?)
     }
 

@@ -5,6 +5,7 @@ use Rattle.lsp_watch.specs.Verdicts.{entered}
 use Rattle.lsp_judge.proofs.judgement.Judgement.announce.Goals as goal
 
 pub returns-clause-knows : goal.returns-clause-knows
-returns-clause-knows c = λ j place judges announces.
-    subst (λ e. Knows c.keep.new.self (entered c.args.passing.now.direction place (option_map entry_view e) j.log))
-    (sym c.in-Some.is) (c.in_ok-keep.ensures j.log place judges.watch (judges.knows announces))
+returns-clause-knows c = λ j judges announces.
+    subst (λ e. Knows c.keep.new.self
+    (entered c.args.passing.now.direction c.args.place (option_map entry_view e) j.log))
+    (sym c.in-Some.is) (c.in_ok-keep.ensures j.log judges.watch (judges.knows announces))

@@ -1,0 +1,13 @@
+-> {"jsonrpc":"2.0","id":0,"method":"initialize","params":{"processId":null,"rootUri":null,"capabilities":{"textDocument":{"hover":{"dynamicRegistration":true},"semanticTokens":{"dynamicRegistration":true,"requests":{"full":true},"tokenTypes":[],"tokenModifiers":[],"formats":["relative"]}},"workspace":{"executeCommand":{"dynamicRegistration":true}},"notebookDocument":{"synchronization":{}}}}}
+<- {"jsonrpc":"2.0","id":0,"result":{"capabilities":{"notebookDocumentSync":{"notebookSelector":[{"notebook":"a"}]}}}}
+-> {"jsonrpc":"2.0","method":"initialized","params":{}}
+-> {"jsonrpc":"2.0","method":"notebookDocument/didOpen","params":{"notebookDocument":{"uri":"file:///n","notebookType":"a","version":1,"cells":[{"kind":2,"document":"cell:1"}]},"cellTextDocuments":[{"uri":"cell:1","languageId":"a","version":1,"text":""}]}}
+<- {"jsonrpc":"2.0","method":"textDocument/publishDiagnostics","params":{"uri":"cell:1","diagnostics":[]}}
+<- {"jsonrpc":"2.0","method":"textDocument/publishDiagnostics","params":{"uri":"file:///n","diagnostics":[]}}
+<- {"jsonrpc":"2.0","method":"textDocument/publishDiagnostics","params":{"uri":"cell:2","diagnostics":[]}}
+-> {"jsonrpc":"2.0","method":"notebookDocument/didChange","params":{"notebookDocument":{"uri":"file:///n","version":2},"change":{"cells":{"structure":{"array":{"start":1,"deleteCount":0},"didOpen":[{"uri":"cell:2","languageId":"a","version":1,"text":""}]}}}}}
+<- {"jsonrpc":"2.0","method":"textDocument/publishDiagnostics","params":{"uri":"cell:2","diagnostics":[]}}
+<- {"jsonrpc":"2.0","method":"textDocument/publishDiagnostics","params":{"uri":"cell:3","diagnostics":[]}}
+-> {"jsonrpc":"2.0","id":9,"method":"shutdown"}
+<- {"jsonrpc":"2.0","id":9,"result":null}
+-> {"jsonrpc":"2.0","method":"exit"}
