@@ -1,6 +1,12 @@
 #!/usr/bin/env python3
-"""The C libraries, from C, Python, Rust and Go: it builds them by `tools/clib`, and tries what users load. Each step is a line. What is not
-installed here is named, and skipped; what is installed has to work."""
+"""The C libraries, from C, Python, Rust and Go: it builds them by `tools/clib`, and tries what users load. Each step is a line.
+
+    tests/clib.py           all of it
+    tests/clib.py --tree    what it compares in the tree alone: structs and versions
+
+It needs a C compiler, `nm`, `ar` and pip (`tools/needs`). Cargo, Go, Valgrind, pkg-config and pytest may be missing: a line that ends in
+`: skipped` names each, and the gate counts these lines. `.ci/run` calls it, first with `--tree`.
+"""
 import os
 import re
 import shutil
@@ -133,7 +139,8 @@ def check_python(folder):
         how |= {name: str(built)} if built.is_file() else {}
         print(*[f"{program} is not built: skipped"] * (not built.is_file()))
     how = {"cwd": tests, "env": {**os.environ, **how}}
-    print(*ended(sys.executable, "-m", "unittest", "-v", "test_lsp_judge", **how).splitlines(), sep="\n")
+    lines = ended(sys.executable, "-m", "unittest", "-v", "test_lsp_judge", **how)
+    print(re.sub(r"(?m)^(.*) \.\.\. skipped (['\"])(.*)\2$", r"\1: \3: skipped", lines).rstrip())
     for python in (sys.executable, "/usr/bin/python3"):
         if not subprocess.run([python, "-c", "import pytest"], capture_output=True, check=False).returncode:
             print("pytest:", ended(python, "-m", "pytest", "-q", "-p", "no:cacheprovider", "test_fixture.py", **how).splitlines()[-1])
@@ -150,11 +157,15 @@ def check_others(folder):
         print("go:", ended("go", "test", "./...", cwd=folder / "go", env={**os.environ, **how}).strip())
 
 
+def check_tree():
+    check_headers()
+    check_versions()
+
+
 def check():
     with tempfile.TemporaryDirectory(prefix="clib-") as room:
         folder, begin = Path(room), time.monotonic()
-        check_headers()
-        check_versions()
+        check_tree()
         print(ended(ROOT / "tools/clib", folder), end="")
         for step in (check_licences, check_symbols, check_c, check_python, check_others):
             print(f"{step.__name__[6:]}, after {time.monotonic() - begin:.0f} s")
@@ -162,5 +173,11 @@ def check():
             step(folder)
 
 
+def main(words):
+    if words not in ([], ["--tree"]):
+        return __doc__
+    return run(check_tree if words else check)
+
+
 if __name__ == "__main__":
-    sys.exit(run(check))
+    sys.exit(main(sys.argv[1:]))
