@@ -1,7 +1,7 @@
 #!/usr/bin/env python3
 """Clients and servers with `lsp_check between` between them, over TCP on 127.0.0.1: what passes, and what is told.
 
-It ends in status 1 at the first difference.
+It ends in status 1 at the first difference. `.ci/run` calls it.
 """
 import json
 import sys

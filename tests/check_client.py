@@ -1,7 +1,7 @@
 #!/usr/bin/env python3
 """`lsp_check` over the logs of its stored run: what it chooses, its statuses, the other forms, statistics and the page.
 
-What it says in text is the stored run. The other forms say the same. It ends in status 1 at the first difference.
+What it says in text is the stored run. The other forms say the same. It ends in status 1 at the first difference. `.ci/run` calls it.
 """
 import json
 import os

@@ -2,7 +2,7 @@
 """A client of `lsp_demo serve`: one whole session through pipes, and then sessions with each bad end.
 
 It compares each reply byte for byte, the exit status, and standard error. It prints the messages that it sent and
-received, and ends in status 1 at the first difference. If an expected text ends in `..`, its end may be any.
+received, and ends in status 1 at the first difference. If an expected text ends in `..`, its end may be any. `.ci/run` calls it.
 """
 import json
 import sys

@@ -8,7 +8,7 @@ its own. A third client waits until one of the two is gone.
 
 Then the same servers are started with the arguments of LSP 3.17 ("Implementation Considerations"): over standard input and output, with a
 client that listens at a port or at a socket file, with arguments that are refused, and at addresses where nobody may listen. It ends in
-status 1 at the first difference.
+status 1 at the first difference. `.ci/run` calls it.
 """
 import json
 import resource

@@ -3,7 +3,7 @@
 
 Each id has exactly one reply. A cancelled request gets an error with code -32800, in the order of the cancellations. The others then get
 their params, in the order of the requests. The client also cancels requests that do not exist, reuses an id, and ends a session while
-requests are pending. It ends in status 1 at the first difference.
+requests are pending. It ends in status 1 at the first difference. `.ci/run` calls it.
 """
 import random
 import sys

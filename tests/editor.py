@@ -6,7 +6,7 @@
     tests/editor.py --socket PROGRAM [ARGUMENT ..]   starts it with an address after its arguments, for two sessions, one after the other
 
 It waits at most PATIENCE seconds for one thing, 300 if the environment does not set it. At the first difference it prints the difference and
-ends in status 1. It needs `lsp.py`, which `tools/new` copies too.
+ends in status 1. It needs `lsp.py`, which `tools/new` copies too. In the repository of the library `.ci/run` calls it.
 """
 import sys
 from pathlib import Path

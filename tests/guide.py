@@ -10,7 +10,7 @@ one session of a shell, so `cd` holds for the blocks that follow.
 
 Without --all, a command that proves, such as `rt check`, is not run. It would prove the libraries again: it takes no library from `rt ci`,
 which proves them in the gate. The toolchain is only asked whether it has this command and these options. At the first difference the
-script ends in status 1.
+script ends in status 1. `.ci/run` calls it.
 """
 import os
 import re

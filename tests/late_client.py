@@ -4,7 +4,7 @@ notifications there, and no responses. So the server ignores the reply, waits fo
 `example_toml` in each of its modes. A request at that place ends the session. Another client sends `shutdown` while its hover waits: the
 hover gets its reply first.
 
-It ends in status 1 at the first difference.
+It ends in status 1 at the first difference. `.ci/run` calls it.
 """
 import sys
 

@@ -2,7 +2,7 @@
 """A client, `example_recorder` and a server, over TCP on 127.0.0.1 and through pipes: recordings and replays.
 
 It compares each recording, each reply and each exit status. `lsp_check` judges the recordings of odd messages. It ends in status 1 at the
-first difference.
+first difference. `.ci/run` calls it.
 """
 import json
 import socket

@@ -12,7 +12,7 @@ server that asks for its configuration gets it before anything else. It checks t
 - After a change that can't be read, the text is lost: the server has no text and no marks, until the client sends the whole text.
 
 Then all messages of each recording, of both sides, go through `lsp_demo pump`, which has to write the same trees in the same order. It ends in
-status 1 at the first difference.
+status 1 at the first difference. `.ci/run` calls it.
 """
 import json
 import re

@@ -3,7 +3,7 @@
 server ends at once and reports why, also at an `exit` that is spelled oddly, and where a header part gives a length that no memory holds. Over
 a socket the next client is served while they stay, and the server keeps nothing for them. A client that never sends anything is dropped.
 
-It ends in status 1 at the first difference.
+It ends in status 1 at the first difference. `.ci/run` calls it.
 """
 import os
 import sys

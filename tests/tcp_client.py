@@ -2,7 +2,7 @@
 """A client of `lsp_demo tcp` on 127.0.0.1: the sessions of client.py through a socket, and cases that only a socket has: clients that send
 single bytes, stall, reset, flood, close one direction or never read.
 
-It compares each reply byte for byte, the exit status, and standard error. It ends in status 1 at the first difference.
+It compares each reply byte for byte, the exit status, and standard error. It ends in status 1 at the first difference. `.ci/run` calls it.
 """
 import select
 import socket

@@ -9,7 +9,7 @@ whose mode is called again, has changes refused, and saves before it sends its c
 
 It requests hovers while a search runs, and gets their replies first. A search reports its progress, and gets one reply. A cancelled search
 gets the error -32800 or its result, and nothing else (LSP 3.17, "Cancellation Support", "Work Done Progress"). So does a search that runs at
-`shutdown`, before `shutdown` gets its reply. It ends in status 1 at the first difference.
+`shutdown`, before `shutdown` gets its reply. It ends in status 1 at the first difference. `.ci/run` calls it.
 """
 import argparse
 import sys

@@ -6,6 +6,7 @@
 
 A client passes each message that it sends to `Typed.sent`, and each that it receives to `Typed.came`. `came` lists the errors: a key that the
 type does not have, a member that is missing or has another type, a null where none is allowed, a method that LSP does not have.
+`.ci/run` calls it.
 """
 import json
 import sys

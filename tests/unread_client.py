@@ -6,7 +6,7 @@ notes the peak of the program's resident memory (Linux, `VmHWM`), and reads the 
 `{"":0}` and lists of lists take the most memory for a byte, and a string the least.
 
 With `--searches` it requests so many lists of symbols of 1.4 MB each from `example_toml`, reads none, and notes how much more memory
-the program has then than before (`VmRSS`), for each byte of the results. `--times` is the most that is allowed.
+the program has then than before (`VmRSS`), for each byte of the results. `--times` is the most that is allowed. `.ci/run` calls it.
 """
 import argparse
 import json

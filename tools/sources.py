@@ -9,7 +9,7 @@ its own functions see of one another: all of src/ but bodies and comments.
 
 tries that on each file of the crates: it marks every body, clause and signature there, and looks which marks the interface and the
 heads have. It also lists each struct, and each variant with fields, that test_surface takes apart or makes. None of them may leave out
-fields by `..`, and those of SHAPES have to be among them, so that one with another field does not compile there.
+fields by `..`, and those of SHAPES have to be among them, so that one with another field does not compile there. `.ci/run` calls it.
 """
 import hashlib
 import re
