@@ -5,6 +5,7 @@ What it says in text is the stored run. The other forms say the same. It ends in
 """
 import json
 import os
+import re
 import resource
 import subprocess
 import sys
@@ -119,11 +120,26 @@ def check_forms():
     expect("the rest", len(suites.findall(".//skipped")), sum(not it.get("fails", False) for it in found))
 
 
+def check_escaped():
+    print("what is in a log is text in JUnit, and characters that XML 1.0 does not have (section 2.2) are shown in another way")
+    asked = {"jsonrpc": "2.0", "id": 9, "method": "a\ufffe\uffff\u0001<&>\"'b"}
+    lines = (DATA / "NoReply_kept.lsp").read_bytes().splitlines(keepends=True)[:3]
+    ran = check(*BOTH, "--junit", "-", given=b"".join(lines) + f"-> {json.dumps(asked, ensure_ascii=False)}\n".encode())
+    said = [it.get("message") for it in xml.fromstring(ran.stdout).iter("skipped")]
+    expect("how many open requests there are", len(said), 1)
+    shown = re.search(r"""a((?:\?|\\u\{[0-9a-f]+\}){3})<&>"'b""", said[0])
+    expect(f"whether {said[0]!r} shows each character of the method", bool(shown), True)
+
+
 def check_rules():
     print("the rules are those of the standards")
     lines = [json.loads(it) for it in check("rules", "--json").stdout.decode().splitlines()]
     came = {it["rule"]: judge.Rule(it["side"], it["level"], it["sentence"], it["section"]) for it in lines}
-    expect("the rules", came, judge.RULES)
+    expect("the names of the rules", sorted(came), sorted(judge.RULES))
+    lines_of_rules = (CRATES.parent / "tools/rows/judge.py").read_text().splitlines()
+    for rule, wanted in judge.RULES.items():
+        number = next((at for at, line in enumerate(lines_of_rules, 1) if re.match(rf'\s+"{rule}":', line)), 1)
+        expect(f"the rule {rule} of tools/rows/judge.py:{number}", came[rule], wanted)
     for group, rules in judge.GROUPS.items():
         expect(f"the group of {group}", {it["rule"] for it in lines if it["group"] == group}, rules)
     for line in lines:
@@ -230,7 +246,7 @@ def check_growth():
 
 
 def check_all():
-    for part in [check_chosen, check_statuses, check_frames, check_forms, check_rules, check_stats, check_page, check_growth]:
+    for part in [check_chosen, check_statuses, check_frames, check_forms, check_escaped, check_rules, check_stats, check_page, check_growth]:
         part()
 
 

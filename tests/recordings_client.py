@@ -18,12 +18,13 @@ import json
 import re
 import subprocess
 import sys
+from contextlib import contextmanager
 from pathlib import Path
 
 sys.dont_write_bytecode = True
 
 import watched  # noqa: F401
-from lsp import PATIENCE, Client, Difference, Program, bodies, built, expect, frame, run
+from lsp import PATIENCE, Client, Difference, Program, bodies, built, expect, frame, run, told
 from typed import lines_of
 
 RECORDINGS = sorted(Path(__file__).resolve().parent.glob("recordings/*.lsp"))
@@ -103,6 +104,7 @@ class Played(Client):
         self.encoding = "utf-16"
         self.takes_saves = False  # whether the server asked for the text of a save
         self.longest = LONGEST_UNASKED
+        self.line = 0  # the line of the recording that is played
 
     def look(self, message):
         super().look(message)
@@ -160,7 +162,9 @@ def add(lists, key, value):
 
 def encoding_of(messages):
     """How a recorded client counts: as the reply to `initialize` says. It may speak to several servers, and get one reply."""
-    (ask,) = [message for of_client, message in messages if message.get("method") == "initialize"]
+    asks = [message for of_client, message in messages if of_client and message.get("method") == "initialize"]
+    expect("how many requests `initialize` the client sends", len(asks), 1)
+    ask = asks[0]
     for of_client, message in messages:
         if not of_client and "method" not in message and message["id"] == ask["id"]:
             return message["result"]["capabilities"].get("positionEncoding", "utf-16")
@@ -171,6 +175,7 @@ def play(client, messages):
     changes = [at for at, (of_client, message) in enumerate(messages) if of_client and message.get("method") == "textDocument/didChange"]
     asked, is_shut = set(), False
     for at, (of_client, message) in enumerate(messages):
+        client.line = at + 1
         method, id, params = message.get("method"), message.get("id"), message.get("params")
         if not of_client:
             if method is None and id in asked:
@@ -216,10 +221,24 @@ def holds(client, recording):
             expect(f"the marks of {uri}", client.marks.get(uri), marks)
 
 
+@contextmanager
+def placed(recording, client):
+    """Whatever goes wrong is told with the recording, and with its line while that is played."""
+    try:
+        yield
+    except Exception as fault:
+        raise Difference(f"{named(recording)}{f':{client.line}' * bool(client.line)}: {told(fault)}") from None
+
+
+def named(recording):
+    return f"tests/recordings/{recording.name}"
+
+
 def replays(recording, way):
     messages = list(lines_of(recording))
-    with Program(built(*way)) as program, Played(program, way) as client:
+    with Program(built(*way)) as program, Played(program, way) as client, placed(recording, client):
         asked = play(client, messages)
+        client.line = 0
         client.close_input()
         for body in bodies(client.rest()):
             client.look(json.loads(body))
@@ -234,24 +253,21 @@ def is_passed_on(recording):
     messages = [message for _, message in lines_of(recording)]
     frames = b"".join(frame(json.dumps(message, ensure_ascii=False).encode()) for message in messages)
     pumped = subprocess.run(built("lsp_demo", "pump"), input=frames, capture_output=True, timeout=PATIENCE, check=False)
-    expect("the status of pump, and standard error", (pumped.returncode, pumped.stderr), (0, b""))
+    expect(f"{named(recording)}: the status of pump, and standard error", (pumped.returncode, pumped.stderr), (0, b""))
     came = [json.loads(body) for body in bodies(pumped.stdout)]
     for sent in messages:
         if sent.get("params", 0) is None:
             del sent["params"]
-    expect("how many messages came", len(came), len(messages))
-    for one, other in zip(came, messages):
-        expect("a message", one, other)
+    expect(f"{named(recording)}: how many messages pump passes on", len(came), len(messages))
+    for line, (one, other) in enumerate(zip(came, messages), 1):
+        expect(f"{named(recording)}:{line}: the message that pump passes on", one, other)
 
 
 def check_all():
     expect("whether there are recordings", bool(RECORDINGS), True)
     for recording in RECORDINGS:
         for way in WAYS:
-            try:
-                print(" ".join(way), recording.stem, f"{replays(recording, way)} replies", flush=True)
-            except Difference as difference:
-                raise Difference(f"{recording.stem}: {difference}") from None
+            print(" ".join(way), recording.stem, f"{replays(recording, way)} replies", flush=True)
         is_passed_on(recording)
     print("each message of each recording passed on: the same tree")
 

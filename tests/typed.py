@@ -14,6 +14,8 @@ from pathlib import Path
 
 sys.dont_write_bytecode = True
 sys.path.append(str(Path(__file__).resolve().parent.parent / "tools"))
+from lsp import Difference
+
 try:
     import metamodel
 except ImportError as fault:
@@ -86,8 +88,14 @@ class Typed:
 
 def lines_of(recording):
     """Whether each message of a recording is its client's, and the message."""
-    for line in Path(recording).read_text(encoding="utf-8").split("\n")[:-1]:
-        yield line.startswith("->"), json.loads(line[3:])
+    for number, line in enumerate(Path(recording).read_text(encoding="utf-8").split("\n")[:-1], 1):
+        try:
+            if line[:3] not in ("-> ", "<- "):
+                raise ValueError("it does not begin with `-> ` or `<- `")
+            message = json.loads(line[3:])
+        except ValueError as fault:
+            raise Difference(f"{recording}:{number}: the line is no message: {fault}") from None
+        yield line.startswith("->"), message
 
 
 def stored_in(crate):
@@ -135,4 +143,7 @@ def main(names):
 
 
 if __name__ == "__main__":
-    main(sys.argv[1:])
+    try:
+        main(sys.argv[1:])
+    except Difference as fault:
+        sys.exit(str(fault))
