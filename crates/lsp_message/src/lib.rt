@@ -1,5 +1,5 @@
 //! Messages between an editor and a language server (JSON-RPC 2.0), and their frames (LSP 3.17, "Base Protocol").
-//! `lsp_server` exports all of it under the same names.
+//! `lsp_server` exports what a server needs of it, under the same names.
 #![tactic(auto)]
 
 mod error;
