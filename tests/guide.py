@@ -1,16 +1,20 @@
 #!/usr/bin/env python3
-"""Follows the guide to the letter: runs the commands of docs/WRITING_A_SERVER.md in an empty folder that has a copy of this repository.
+"""Follows a page to the letter, in an empty folder that has a copy of this repository: the tutorial, or the guide.
 
-    tests/guide.py          runs the commands that prove nothing, in a few minutes
-    tests/guide.py --all    runs those that prove too, in half an hour or more
+    tests/guide.py PAGE ..      runs the commands that prove no library, in a few minutes, and prints the seconds that each took
+    tests/guide.py --all        runs all commands of both pages, in an hour or more
 
-In an indented block of the page, a line that begins with `$ ` is a command, which has to end in status 0. The lines up to the next command
+In an indented block of a page, a line that begins with `$ ` is a command, which has to end in status 0. The lines up to the next command
 are what it prints: all of it, or its first part if they end in `...`. If there are no such lines, it may print anything. The blocks are
 one session of a shell, so `cd` holds for the blocks that follow.
 
-Without --all, a command that proves, such as `rt check`, is not run. It would prove the libraries again: it takes no library from `rt ci`,
-which proves them in the gate. The toolchain is only asked whether it has this command and these options. At the first difference the
-script ends in status 1. `.ci/run` calls it.
+Before a fenced block may stand `<!-- file PATH -->`: the block becomes this file. Before a block of `diff` may stand `<!-- edit PATH -->`:
+its lines with `-`, and those without a mark, have to follow one another in this file once, and the lines with `+` come in. A path is one of
+the folder in which the shell is.
+
+Without --all, a command that proves, such as `rt check`, is run only in a crate that uses no library. Another one would prove the libraries
+again: it takes none from `rt ci`, which proves them in the gate. The toolchain is then only asked whether it has this command and these
+options. At the first difference the script ends in status 1. `.ci/run` calls it.
 """
 import os
 import re
@@ -19,6 +23,7 @@ import signal
 import subprocess
 import sys
 import tempfile
+import time
 from contextlib import contextmanager
 from pathlib import Path
 
@@ -27,21 +32,40 @@ sys.dont_write_bytecode = True
 from lsp import Difference, expect, run
 
 ROOT = Path(__file__).resolve().parent.parent
-PAGE = ROOT / "docs/WRITING_A_SERVER.md"
+PAGES = ["docs/TUTORIAL.md", "docs/WRITING_A_SERVER.md"]
 BLOCK = re.compile(r"(?m)^\n((?:    .*\n|\n(?=    ))+)")
+MADE = re.compile(r"(?m)^<!-- (file|edit) (\S+) -->\n```\w+\n((?:.*\n)*?)```$")
 PROVES = re.compile(r"rt (check|run|lib|test|verdict|ci|all)\b([^<]*)(?:< \w+)?")
+# Whether the crate of the shell's folder uses no library.
+ALONE = 'grep -qx "$(basename "$PWD"):" ../../crates.txt && echo yes || echo no'
 # The line after a command's output: its status stands after this character, which no command prints.
 END = "\x1e"
 AUTHOR = {f"GIT_{who}_{what}": value for who in ("AUTHOR", "COMMITTER") for what, value in (("NAME", "guide"), ("EMAIL", "guide@localhost"))}
 
 
-def commands(page):
-    """The commands of a page, each with the output that the page shows."""
-    for block in BLOCK.findall(page):
-        lines = [line[4:] for line in block.splitlines()]
-        starts = [at for at, line in enumerate(lines) if line.startswith("$ ")]
-        for start, end in zip(starts, [*starts[1:], len(lines)]):
-            yield lines[start][2:], "\n".join(lines[start + 1 : end]).strip()
+def commands(block):
+    """The commands of an indented block, each with the output that the page shows."""
+    lines = [line[4:] for line in block.splitlines()]
+    starts = [at for at, line in enumerate(lines) if line.startswith("$ ")]
+    for start, end in zip(starts, [*starts[1:], len(lines)]):
+        yield lines[start][2:], "\n".join(lines[start + 1 : end]).strip()
+
+
+def steps(page):
+    """The steps of a page, in their order: commands with what they print, and files to make or to edit."""
+    made = list(MADE.finditer(page))
+    plain = MADE.sub(lambda it: re.sub(r"[^\n]", "#", it[0]), page)
+    found = [(it.start(), "command", *step) for it in BLOCK.finditer(plain) for step in commands(it[1])]
+    return sorted([*found, *((it.start(), *it.groups()) for it in made)], key=lambda it: it[0])
+
+
+def edit(path, change):
+    """Makes the change of a block of `diff` in a file."""
+    lines = change.splitlines(keepends=True)
+    old, new = ("".join(it[1:] for it in lines if it[0] in marks) for marks in (" -", " +"))
+    text = path.read_text(encoding="utf-8")
+    expect(f"how often {path} has the lines {old!r}", text.count(old), 1)
+    path.write_text(text.replace(old, new), encoding="utf-8")
 
 
 def copy_to(folder):
@@ -92,28 +116,42 @@ def check_options(command, options):
         expect(f"the status of {words}, after {asked.stderr[-500:]!r}", asked.returncode, 0)
 
 
+def follow_command(command, wanted, session, has_all):
+    """Runs a command of a page, unless it proves libraries."""
+    proof = PROVES.fullmatch(command)
+    if proof and not has_all and output_of(ALONE, session).strip() != "yes":
+        check_options(*proof.groups())
+        return
+    printed = output_of(command, session).strip()
+    is_part = wanted.endswith("...")
+    if wanted:
+        wanted = wanted.removesuffix("...").strip()
+        expect(f"what `{command}` prints", printed[: len(wanted)] if is_part else printed, wanted)
+
+
 def follow(page, has_all):
+    found = steps(Path(ROOT, page).read_text(encoding="utf-8"))
+    expect(f"whether {page} has commands", "command" in [it[1] for it in found], True)
     with tempfile.TemporaryDirectory() as folder:
         copy_to(Path(folder, "lsp_server"))
         with shell(Path(folder, "lsp_server")) as session:
-            found = list(commands(page))
-            expect("whether the page has commands", bool(found), True)
-            for command, wanted in found:
-                proof = PROVES.fullmatch(command)
-                if proof and not has_all:
-                    check_options(*proof.groups())
-                    continue
-                printed = output_of(command, session).strip()
-                is_part = wanted.endswith("...")
-                if wanted:
-                    wanted = wanted.removesuffix("...").strip()
-                    expect(f"what `{command}` prints", printed[: len(wanted)] if is_part else printed, wanted)
+            for _, kind, what, text in found:
+                begin = time.monotonic()
+                if kind == "command":
+                    follow_command(what, text, session, has_all)
+                elif kind == "file":
+                    Path(output_of("pwd", session).strip(), what).write_text(text, encoding="utf-8")
+                else:
+                    edit(Path(output_of("pwd", session).strip(), what), text)
+                print(f"{page}: {time.monotonic() - begin:.0f} s: {what}", flush=True)
 
 
 def main(words):
-    if words not in ([], ["--all"]):
+    has_all = words == ["--all"]
+    pages = PAGES if has_all else words
+    if not pages or not set(pages) <= set(PAGES):
         return __doc__
-    return run(lambda: follow(PAGE.read_text(encoding="utf-8"), bool(words)))
+    return run(lambda: [follow(it, has_all) for it in pages])
 
 
 if __name__ == "__main__":
