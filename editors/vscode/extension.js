@@ -1,5 +1,5 @@
-// VS Code needs an extension: this is `extension.js` of one, with `vscode-languageclient`. Its `package.json` names the language `toml`,
-// extension `.toml`, under `contributes.languages`, and the text `toml.version` under `contributes.configuration`. Not tried in VS Code itself.
+// VS Code starts a server from an extension: this one, with package.json beside it. docs/EDITORS.md says how to run it. Not tried in VS Code
+// itself: session.js and starts.js try the library below it.
 const { LanguageClient } = require('vscode-languageclient/node');
 let client;
 exports.activate = () => {
