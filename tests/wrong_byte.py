@@ -62,10 +62,13 @@ TYPED = "tests/typed.py crates/example_toml crates/example_diagnostics crates/ex
 UNREAD = "tests/unread_client.py --ways run_threads --params string --length 1000000 --most"
 SEARCHES = "tests/unread_client.py --searches"
 SESSION, DIAGNOSTICS, TOML = out("example_session"), out("example_diagnostics"), out("example_toml")
-WRONG_BODY = "crates/lsp_text/edits/line-past-the-last-empty.edit"
+WRONG_BODY, HARMLESS = "crates/lsp_text/edits/line-past-the-last-empty.edit", "crates/lsp_text/edits/return-before-edit.edit"
+RECORD = "crates/lsp_text/edits/record"
 OF_TREE = [
     Row("python3 tools/gate.py", "tests/recordings/helix25_search.lsp", "textDocument/didChange", "textDocument/didchange", "helix25_search.lsp: it is not"),
     Row("tools/edits", WRONG_BODY, 'return Some("");', 'return some("");', "line-past-the-last-empty"),
+    Row("tools/edits", HARMLESS, "saturating_sub(0)", "saturating_sub(1)", "return-before-edit: it changes nothing but comments"),
+    Row("tools/edits", RECORD, "returns-else-byte-lt13", "returns-else-byte-lt12", "a-return-begins-no-line: the edit, its function"),
     Row("tools/by_hand", "tools/by_hand", "ByteTrace/new: ", "ByteTrace/neW: ", "ByteTrace/new/Proof.antt is a proof by hand"),
     Row("python3 tools/sources.py", "crates/test_surface/src/shapes.rt", "let Threaded {", "let ThreadeD {", "no Threaded"),
     Row("tools/pages", "docs/LONG_REQUESTS.md", "let options = self.options();", "let options = self.option_();", "docs/LONG_REQUESTS.md"),

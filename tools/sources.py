@@ -26,6 +26,7 @@ TACTIC = re.compile(r"(?m)^ *#!?\[tactic\b")
 CHARACTER = r"'(?:\\(?:u\{[^}]*\}|x..|.)|[^\\'])'"
 # (a name of a proof may end in an apostrophe, which begins no character)
 MARKED = re.compile(rf'//[^\n]*|\br(#+)".*?"\1|"(?:\\.|[^"\\])*"|\bb{CHARACTER}|(?<![\w\']){CHARACTER}', re.S)
+WORD = re.compile(rf"{MARKED.pattern}|\w+|\S", re.S)
 SHAPED = re.compile(r"((?:\w+::)*[A-Z]\w*)(?:::<[^(){};]*>)?\s*\{")
 REST = re.compile(r"[{(,]\s*\.\.(?!=)(?:\s*\w+)?\s*[,)}]")
 ITEM = re.compile(r"\b(?:struct|enum|union|impl|trait|fn)\b")
@@ -69,6 +70,7 @@ def above(crates, name):
     return sorted(found, key=lambda it: (len(below(crates, it)), it))
 
 
+@lru_cache(maxsize=None)
 def masked(text):
     """The text without comments, and the same with what stands in its strings and characters blanked."""
     kept = MARKED.sub(lambda it: "" if it[0].startswith("//") else it[0], text)
@@ -193,19 +195,26 @@ def heads_of(text):
     return " ".join(kept.split())
 
 
+@lru_cache(maxsize=None)
 def uncommented(text):
     """The text with spaces for its comments, so that each place stays where it is."""
     return MARKED.sub(lambda it: " " * len(it[0]) if it[0].startswith("//") else it[0], text)
 
 
+def words_of(text):
+    """The words, strings and signs of a text, without its comments and its layout."""
+    found = [it[0] for it in WORD.finditer(text) if not it[0].startswith("//")]
+    return " ".join(it for it, after in zip(found, [*found[1:], ""]) if it != "," or after not in PAIRS.values())
+
+
 def function_at_place(text, place):
-    """The function that stands at a place of a file: its text without comments, and its block without functions, which is the head and
-    the ghost members. Both are empty where no function stands."""
+    """Where the function that stands at a place of a file starts and ends, and its block without functions, which is the head and the
+    ghost members. Where no function stands it starts and ends at the place."""
     kept, found = functions(uncommented(text))
     for start, _, _, _, end in found:
         if start <= place < end:
-            return " ".join(kept[start:end].split()), block_text(kept, found, start)
-    return "", ""
+            return start, end, block_text(kept, found, start)
+    return place, place, ""
 
 
 def block_text(kept, found, start):
@@ -347,14 +356,13 @@ class Sums:
 
         return self.kept((name, "traits"), make)
 
-    def contract(self, name, text, place):
-        """All that the contract of the function at a place of a file is made of: the function's text, the ghost members of its block,
-        and for a method of a trait of these crates its head there."""
-        function, block = function_at_place(text, place)
+    def beside(self, name, function, block):
+        """What the contract of a function has beside the function's own text: the head and the ghost members of its block, and for a method
+        of a trait of these crates its head there."""
         of_trait = re.match(r"impl\b.*?(\w+)(?:<.*?>)? for ", block.partition("{")[0])
         key = (of_trait[1], re.search(r"\bfn (\w+)", function)[1]) if of_trait else None
         heads = [self.trait_heads(it).get(key) for it in [*below(self.crates, name), name]]
-        return [function, block, *filter(None, heads)]
+        return [block, *filter(None, heads)]
 
     def around(self, name):
         """The sum of all that the proof of one function of a crate sees besides its own text: the crate's types, the heads of its
