@@ -57,13 +57,13 @@ def begin(client):
 
 def comes_and_goes(server):
     server.connect().connection.close()
-    expect("the line of a client that sends nothing", server.says("it"), "disconnected channel")
+    expect("the line of a client that sends nothing", server.says("it"), "disconnected channel: the messages ended too early")
 
 
 def sends_no_message(server):
     with server.connect() as client:
         client.send_bytes(b"GET / HTTP/1.1\r\n\r\n")
-        expect("the line of a client that sends no message", server.says("it"), "read fault 4")
+        expect("the line of a client that sends no message", server.says("it"), "read fault 4: a header line has no `: `")
 
 
 def resets(server):
@@ -71,7 +71,8 @@ def resets(server):
     with server.connect() as client:
         client.send_bytes(b"Content-Length: 10\r\n\r\n{")
         client.connection.setsockopt(socket.SOL_SOCKET, socket.SO_LINGER, struct.pack("ii", 1, 0))
-    expect("the line of a client that resets", server.says("it") in {"read fault 1", "read fault 7"}, True)
+    lines = {"read fault 1: the read failed: connection reset", "read fault 7: the input ended inside a content part"}
+    expect("the line of a client that resets", server.says("it") in lines, True)
 
 
 def leaves(server):
@@ -241,28 +242,27 @@ def connects_to_a_file(way):
             session_of(way, words, listener)
 
 
-def ends_with_a_reason(way, words, line=None):
+def ends_with_a_reason(way, words, line):
     """It ends in status 1, and says why in one line."""
     with Program(built(*way, *words)) as program:
         program.process.stdin.close()
-        status, printed, said = program.end()
-        expect(f"the status at {words}", (status, printed), (1, b""))
-        expect(f"whether it says why at {words} ({said!r})", said.startswith("Error: ") and said.count("\n") == 1, True)
-        expect(f"standard error at {words}", said, line or said)
+        expect(f"the status, standard output and standard error at {words}", program.end(), (1, b"", line))
 
 
 def is_refused(way):
     """Words that ask for what can't be had, and ends of a client that are not there."""
-    no_port = "Error: no port number behind `--socket` or `--port`\n"
+    no_port, port = "Error: no port number after `--socket` or `--port`\n", free_port()
+    long = f"/{'n' * 60}/client"
     for words, line in [
         (["--node-ipc"], "Error: `--node-ipc` is for programs under node\n"),
-        (["--pipe"], "Error: no name behind `--pipe`\n"),
+        (["--pipe"], "Error: no name after `--pipe`\n"),
         (["--socket"], no_port),
         (["--socket", "--stdio"], no_port),
         (["--port=words"], no_port),
         (["--socket=65536"], no_port),
-        ([f"--socket={free_port()}"], None),
-        (["--pipe=/nowhere/client"], None),
+        ([f"--socket={port}"], f"Error: 127.0.0.1:{port}: connection refused\n"),
+        (["--pipe=/nowhere/client"], "Error: /nowhere/client: entity not found\n"),
+        ([f"--pipe={long}"], f"Error: {long[-40:]}: entity not found\n"),
     ]:
         ends_with_a_reason(way, words, line)
 
@@ -270,8 +270,9 @@ def is_refused(way):
 def can_not_listen(way):
     """An address that is used, and a word that is none."""
     with socket.create_server((HOST, 0)) as used:
-        for word in ["%s:%d" % used.getsockname(), "nonsense"]:
-            ends_with_a_reason(way, [word])
+        address = "%s:%d" % used.getsockname()
+        for word, reason in [(address, "address in use"), ("nonsense", "not an address; see --help")]:
+            ends_with_a_reason(way, [word], f"Error: {word}: {reason}\n")
 
 
 def check_all():

@@ -111,7 +111,7 @@ def gives_way():
         for server in servers:
             all_of_them.enter_context(server.connect())
         for way, server in zip(WAYS, servers):
-            expect(f"the line of a client that says nothing ({way})", server.says("it"), "read fault 1")
+            expect(f"the line of a client that says nothing ({way})", server.says("it"), "read fault 1: the read failed: operation would block")
             server.is_used()
 
 

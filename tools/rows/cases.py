@@ -90,6 +90,43 @@ def turns_answer(_):
     return [f"{params}; shutdown {called(boxes, 'shutdown')}; got {''.join(map(text_of, boxes.sent))}"]
 
 
+# What a fault means, by its kind and its number. The kinds `connection reset`, `broken pipe` and `address in use` are those that Rust's
+# `ErrorKind` prints.
+MEANINGS = {
+    ("read", "1"): "the read failed: connection reset",
+    ("read", "2"): "a header line is not UTF-8",
+    ("read", "3"): r"a header line does not end in \r\n",
+    ("read", "4"): "a header line has no `: `",
+    ("read", "5"): "the value of `Content-Length` is no number",
+    ("read", "6"): "the header part has no `Content-Length`",
+    ("read", "7"): "the input ended inside a content part",
+    ("read", "8"): "the content part is not UTF-8",
+    ("read", "9"): "the content part is not JSON that can be read; is `Content-Length` too small?",
+    ("read", "10"): "the content part is JSON, but no message",
+    ("read", "11"): "out of memory",
+    ("read", "12"): "the content part is above the limit",
+    ("read", "13"): "the content part is a batch: LSP has none",
+    ("read", "14"): "the header part is above the limit",
+    ("write", "1"): "the write failed: broken pipe",
+    ("write", "2"): "out of memory",
+}
+OTHERS = {
+    ("session", "4"): "out of memory",
+    ("pump", "3"): "thread not started",
+    ("io", "3"): "channel closed: the receiver of messages was dropped",
+    ("io", "4"): "thread not started",
+    ("io", "5"): "socket fault: address in use",
+    ("io", "6"): "out of memory",
+}
+
+
+def explained_answer(kind, number):
+    """What a fault prints for a person. One of reading or writing prints the same as the fault of a session, a pump and a connection."""
+    if (kind, number) in OTHERS:
+        return OTHERS[kind, number]
+    return "; ".join([f"{kind} fault {number}: {MEANINGS[kind, number]}"] * 4)
+
+
 ROWS = {
     "body": lambda rest: [body_answer(unescape(rest))],
     "relay": relay_answers,
@@ -98,7 +135,8 @@ ROWS = {
     "call": call_answer,
     "turns": turns_answer,
     "called_off": lambda _: [f"{ABORTED}, asked 2 times, after a second true"],
-    "nobody": lambda _: ["Socket(ConnectionRefused), socket fault"],
+    "nobody": lambda _: ["Socket(ConnectionRefused), socket fault, socket fault: connection refused"],
+    "explained": lambda rest: [explained_answer(*rest.split())],
     "exit": lambda _: [f"timed out waiting for exit notification, after 30 seconds true; got {text_of({'id': 2, 'result': None})}"],
 }
 

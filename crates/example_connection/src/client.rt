@@ -3,7 +3,7 @@
 use crate::{send, serve};
 use anyhow::{Error, Result, anyhow, bail};
 use lsp_server::running::spawn;
-use lsp_server::{Connection, Message, Notification, Request, RequestId, Response};
+use lsp_server::{Connection, Explained, Message, Notification, Request, RequestId, Response};
 use serde_json::Value;
 use std::net::Net;
 use std::sync::Wait;
@@ -40,7 +40,10 @@ where
     R: Net + Threads + Wait + Clock + AllocGlobal + Copy + Drop + Send + 'static,
     R::Stream: Send + 'static,
 {
-    let (connection, threads) = Connection::connect(rt, address)?;
+    let (connection, threads) = match Connection::connect(rt, address) {
+        Ok(ends) => ends,
+        Err(fault) => bail!("{address}: {}", Explained(fault)),
+    };
     let answer = hold_session(rt, &connection);
     // The threads end once the connection is dropped.
     drop(connection);
@@ -49,7 +52,8 @@ where
         drop(threads);
         return answer;
     }
-    threads.join(rt).map_err(Error::from).and(answer)
+    let joined = threads.join(rt).map_err(Explained);
+    joined.map_err(Error::from).and(answer)
 }
 
 /// Returns the answer of the server of this program. It runs in a thread, and needs no socket.

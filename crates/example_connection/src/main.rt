@@ -9,7 +9,8 @@
 mod client;
 
 use anyhow::{Context, Result, bail};
-use lsp_server::{Connection, IoThreads, Message, ReqQueue, Request, Response};
+use lsp_server::about::About;
+use lsp_server::{Connection, Explained, IoThreads, Message, ReqQueue, Request, Response};
 use serde_json::{Value, json};
 use std::alloc::{AllocError, Global};
 use std::env;
@@ -32,16 +33,30 @@ enum Asked {
     Name,
 }
 
+/// What `--help` and `--version` print.
+const ABOUT: About<'static> = About {
+    name: "example_connection",
+    version: "0.1",
+    purpose: "A language server at standard input and output: a hover says how long the path of a document is.",
+    arguments: "  client          asks a server once: this program, or with one more argument that at an address
+  --help          prints this text; also -h
+  --version       prints the version; also -V
+",
+};
+
 fn main(rt: HostRuntime) -> Result<()> {
     let words: Vec<String> = env::args(&rt)?.skip(1).collect(rt.alloc())?;
+    if let Some(text) = ABOUT.asked(words.as_slice()) {
+        return Ok(print!(&rt; "{text}")?);
+    }
     if !words.is_empty() {
         return client::print_answer(&rt, words.as_slice());
     }
-    let (connection, threads) = Connection::stdio(&rt)?;
+    let (connection, threads) = Connection::stdio(&rt).map_err(Explained)?;
     let served = serve(&rt, connection, Some(&threads));
     let threads = threads.flush(&rt);
     served?;
-    threads.join(&rt)?;
+    threads.join(&rt).map_err(Explained)?;
     Ok(())
 }
 
@@ -72,10 +87,11 @@ fn serve_session<R: Wait + Clock + AllocGlobal>(
 
 /// Does the handshake. Returns whether the client can be asked for its configuration.
 fn begin<R: Wait + Clock + AllocGlobal>(rt: &R, connection: &Connection) -> Result<bool> {
-    let (id, params) = connection.initialize_start(rt)?;
+    let (id, params) = connection.initialize_start(rt).map_err(Explained)?;
     let can_be_asked = can_be_asked(&params);
     drop(params);
-    connection.initialize_finish(rt, id, about(rt.alloc())?)?;
+    let finished = connection.initialize_finish(rt, id, about(rt.alloc())?);
+    finished.map_err(Explained)?;
     Ok(can_be_asked)
 }
 
@@ -91,7 +107,7 @@ fn serve_messages<R: Wait + Clock + AllocGlobal>(
         }
         match message {
             Message::Request(request) => {
-                if connection.handle_shutdown(rt, &request)? {
+                if connection.handle_shutdown(rt, &request).map_err(Explained)? {
                     return Ok(());
                 }
                 send(rt, connection, Message::from(paths.answer(request)?))?;

@@ -17,13 +17,14 @@ use lsp_acts::cancelled_id;
 use lsp_documents::{DocumentUpdate, SyncOptions, TextDocuments, UpdateFault};
 use lsp_features::{Answers, announce, dispatch, dispatch_ref};
 use lsp_methods::{Configuration, from_value, publish};
+use lsp_server::about::{About, CHANNEL_ARGUMENTS};
 use lsp_server::calls::{CallRef, NotificationRef};
 use lsp_server::clients::{ClientOptions, serve_clients};
 use lsp_server::laws::policies::nothing_is_skipped;
 use lsp_server::policies::{BadContentPolicy, EndOnBadContent};
 use lsp_server::{
-    Act, Notification, Request, ResponseError, Server, ServerApplication, SessionEnd, SessionFault,
-    StreamTransport,
+    Act, Explained, Notification, Request, ResponseError, Server, ServerApplication, SessionEnd,
+    SessionFault, StreamTransport,
 };
 use lsp_text::{Text, TextDocument};
 use lsp_types::methods::{DefinitionRequest, HoverRequest};
@@ -346,15 +347,26 @@ fn serve<R: BufRead, W: Write>(
     transport.serve(checker)
 }
 
+/// What `--help` and `--version` print.
+const ABOUT: About<'static> = About {
+    name: "example_diagnostics",
+    version: "0.1",
+    purpose: "A language server that marks the lines that are too long.",
+    arguments: CHANNEL_ARGUMENTS,
+};
+
 fn main(rt: HostRuntime) -> Answer<()> {
     let alloc: Global = rt.alloc();
     let words: Vec<String> = env::args(&rt)?.skip(1).collect(alloc)?;
+    if let Some(text) = ABOUT.asked(words.as_slice()) {
+        return Ok(print!(&rt; "{text}")?);
+    }
     let options = ClientOptions::new();
     let served = serve_clients(&rt, words.as_slice(), options, move |mut client| {
         let mut policy = EndOnBadContent;
         let mut transport = client.transport(alloc, &mut policy);
         let mut application = ServerApplication::new(alloc, Checker::new(alloc));
-        serve(&mut transport, &mut application)
+        serve(&mut transport, &mut application).map_err(Explained)
     })?;
     match served? {
         SessionEnd::ShutDown => Ok(()),

@@ -19,7 +19,8 @@ mod record;
 mod replay;
 
 use anyhow::{Error, Result, bail};
-use lsp_server::Connection;
+use lsp_server::about::About;
+use lsp_server::{Connection, Explained};
 use peer::{accept, connect, parent};
 use record::{Until, record};
 use replay::{compare, write_frames};
@@ -30,25 +31,59 @@ use std::thread::Threads;
 use std::time::Clock;
 use std::{fs, io};
 
+/// What `--help` and `--version` print.
+const ABOUT: About<'static> = About {
+    name: "example_recorder",
+    version: "0.1",
+    purpose: "Records the session of an editor and a language server, and plays a recording again.",
+    arguments: "  record LISTEN SERVER FILE   records one session into the file
+  record - SERVER FILE        the same for an editor that starts programs
+  replay FILE                 writes the client's messages, as frames
+  replay FILE SERVER          sends them to a server, and compares what it answers
+  --help                      prints this text; also -h
+  --version                   prints the version; also -V
+",
+};
+
 fn main(rt: HostRuntime) -> Result<()> {
     let words: Vec<String> = std::env::args(&rt)?.skip(1).collect(rt.alloc())?;
+    if let Some(text) = ABOUT.asked(words.as_slice()) {
+        return Ok(print!(&rt; "{text}")?);
+    }
     match words.as_slice() {
         [word, listen, server, file] if word.as_str() == "record" => {
-            let mut log = BufWriter::new(rt.alloc(), fs::create(&rt, file.as_str())?)?;
+            let mut log = BufWriter::new(
+                rt.alloc(),
+                named(file.as_str(), fs::create(&rt, file.as_str()))?,
+            )?;
             let recorded = record_session(&rt, listen.as_str(), server.as_str(), &mut log);
             drop(log);
             recorded
         }
         [word, file] if word.as_str() == "replay" => {
-            let mut recording = BufReader::new(rt.alloc(), fs::open(&rt, file.as_str())?)?;
+            let mut recording = BufReader::new(
+                rt.alloc(),
+                named(file.as_str(), fs::open(&rt, file.as_str()))?,
+            )?;
             write_frames(rt.alloc(), &mut recording, &mut io::writer(&rt))
         }
         [word, file, server] if word.as_str() == "replay" => {
-            let mut recording = BufReader::new(rt.alloc(), fs::open(&rt, file.as_str())?)?;
+            let mut recording = BufReader::new(
+                rt.alloc(),
+                named(file.as_str(), fs::open(&rt, file.as_str()))?,
+            )?;
             let count = replay_to(&rt, &mut recording, server.as_str())?;
             Ok(println!(rt; "{count} answers, each as recorded")?)
         }
         _ => bail!("usage: example_recorder record LISTEN|- SERVER FILE | replay FILE [SERVER]"),
+    }
+}
+
+/// Adds the name of a file or an address to the error of a call.
+fn named<T>(name: &str, called: io::Result<T>) -> Result<T> {
+    match called {
+        Ok(it) => Ok(it),
+        Err(error) => bail!("{name}: {error}"),
     }
 }
 
@@ -62,11 +97,13 @@ where
     match listen {
         "-" => {
             let client = parent(rt);
-            record(rt, client, connect(rt, server)?, log, Until::ServerCloses)
+            let server = named(server, connect(rt, server))?;
+            record(rt, client, server, log, Until::ServerCloses)
         }
         addr => {
-            let client = accept(rt, addr)?;
-            record(rt, client, connect(rt, server)?, log, Until::BothClose)
+            let client = named(addr, accept(rt, addr))?;
+            let server = named(server, connect(rt, server))?;
+            record(rt, client, server, log, Until::BothClose)
         }
     }
 }
@@ -77,12 +114,16 @@ where
     R: Net + Threads + Wait + Clock + AllocGlobal + Print + Copy + Drop + Send + 'static,
     R::Stream: Send + 'static,
 {
-    let (connection, threads) = Connection::connect(rt, server)?;
+    let (connection, threads) = match Connection::connect(rt, server) {
+        Ok(ends) => ends,
+        Err(fault) => bail!("{server}: {}", Explained(fault)),
+    };
     let compared = compare(rt, recording, connection, &mut io::writer(rt));
     let threads = threads.flush(rt);
     if compared.is_err() {
         drop(threads);
         return compared;
     }
-    threads.join(rt).map_err(Error::from).and(compared)
+    let joined = threads.join(rt).map_err(Explained);
+    joined.map_err(Error::from).and(compared)
 }

@@ -11,14 +11,15 @@ ghost use Rattle.lsp_server.specs.SessionBytes.{Gives};
 ghost use Rattle.lsp_server.specs.SessionLaws.{Both, KeepsOrder};
 
 use anyhow::{Result, bail};
+use lsp_server::about::About;
 use lsp_server::laws::sessions::session_answers_requests;
 use lsp_server::{
-    Handler, Notification, Request, ResponseError, SessionEnd, SessionFault, session,
+    Explained, Handler, Notification, Request, ResponseError, SessionEnd, SessionFault, session,
 };
 use serde_json::{Value, json};
 use std::alloc::{AllocError, Global};
-use std::io;
 use std::io::{BufRead, BufReader, Write};
+use std::{env, io};
 
 /// The documents of a client.
 #[derive(Drop)]
@@ -84,8 +85,22 @@ fn serve<R: BufRead, W: Write>(
     session(alloc, reader, writer, capabilities, documents)
 }
 
+/// What `--help` and `--version` print.
+const ABOUT: About<'static> = About {
+    name: "example_session",
+    version: "0.1",
+    purpose: "A language server at standard input and output: it counts the open documents.",
+    arguments: "  --help          prints this text; also -h
+  --version       prints the version; also -V
+",
+};
+
 fn main(rt: HostRuntime) -> Result<()> {
     let alloc = rt.alloc();
+    let words: Vec<String> = env::args(&rt)?.skip(1).collect(alloc)?;
+    if let Some(text) = ABOUT.asked(words.as_slice()) {
+        return Ok(print!(&rt; "{text}")?);
+    }
     // The client is to notify the server when it opens or closes a document.
     let capabilities = json!(in alloc; { "textDocumentSync": { "openClose": true } })?;
     let mut documents = Documents {
@@ -94,7 +109,8 @@ fn main(rt: HostRuntime) -> Result<()> {
     };
     let mut input = BufReader::new(alloc, rt.reader())?;
     let mut output = io::writer(&rt);
-    match serve(alloc, &mut input, &mut output, capabilities, &mut documents)? {
+    let served = serve(alloc, &mut input, &mut output, capabilities, &mut documents);
+    match served.map_err(Explained)? {
         SessionEnd::ShutDown => Ok(()),
         SessionEnd::Closed => bail!("the client left without a shutdown"),
     }

@@ -23,9 +23,10 @@ mod sessions;
 mod work;
 
 use anyhow::{Result, bail};
+use lsp_server::about::{About, CHANNEL_ARGUMENTS};
 use lsp_server::clients::{ClientOptions, serve_clients};
 use lsp_server::policies::SkipAndFlag;
-use lsp_server::{SessionEnd, StartFault, ThreadsOutcome};
+use lsp_server::{Explained, SessionEnd, StartFault, ThreadsOutcome};
 use server::TomlServer;
 use sessions::{InlineServer, serve, serve_in_threads, serve_inline};
 use std::alloc::Global;
@@ -34,9 +35,22 @@ use std::env;
 /// How many clients of an address are served at the same time.
 const CLIENTS_AT_ONCE: usize = 2;
 
+/// What `--help` and `--version` print.
+const ABOUT: About<'static> = About {
+    name: "example_toml",
+    version: "0.1",
+    purpose: "\
+A language server for TOML. If the first argument is `inline`, all runs on one thread; if it is `threads`, the same with a
+thread that reads and one that writes. Otherwise jobs run in the threads of a pool.",
+    arguments: CHANNEL_ARGUMENTS,
+};
+
 fn main(rt: HostRuntime) -> Result<()> {
     let alloc: Global = rt.alloc();
     let arguments: Vec<String> = env::args(&rt)?.skip(1).collect(alloc)?;
+    if let Some(text) = ABOUT.asked(arguments.as_slice()) {
+        return Ok(print!(&rt; "{text}")?);
+    }
     let served = match arguments.as_slice() {
         [mode, rest @ ..] if mode.as_str() == "inline" => {
             serve_clients(&rt, rest, ClientOptions::new(), move |mut client| {
@@ -44,7 +58,7 @@ fn main(rt: HostRuntime) -> Result<()> {
                 let server = InlineServer::new(alloc, TomlServer::new(alloc, skipped.share()?));
                 let mut transport = client.transport(alloc, &mut skipped);
                 let (_server, answer) = serve_inline(alloc, &mut transport, server);
-                Ok(answer?)
+                Ok(answer.map_err(Explained)?)
             })
         }
         [mode, rest @ ..] if mode.as_str() == "threads" => {
@@ -75,5 +89,5 @@ fn end_of<S: Drop, W: Drop>(
     session: (S, Result<ThreadsOutcome<W>, StartFault>),
 ) -> Result<SessionEnd> {
     let (_server, done) = session;
-    Ok(done?.answer?)
+    Ok(done?.answer.map_err(Explained)?)
 }

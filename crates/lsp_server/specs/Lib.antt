@@ -80,7 +80,9 @@ pub use Rattle.lsp_session.specs.Turns
 pub use Rattle.lsp_session.specs.WriteLoop
 pub use Rattle.lsp_threads.specs.Pump
 pub use Rattle.lsp_threads.specs.Threads
+pub mod About
 pub mod Clients
+pub mod Explained
 pub mod IoFault
 pub mod Joining
 pub mod Taken

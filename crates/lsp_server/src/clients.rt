@@ -34,6 +34,9 @@ const PAUSE_SECONDS: u64 = 1;
 /// Why a client is refused whose thread did not start.
 const NOT_STARTED: &str = "thread not started";
 
+/// How many bytes of a name stand in the text of an error, if it is longer. An `io::Error` keeps 76 bytes of its text.
+const SHOWN_BYTES: usize = 40;
+
 /// How many seconds a client of an address may be silent at first, if the options do not say otherwise.
 const SILENT_SECONDS: u64 = 30;
 
@@ -168,7 +171,8 @@ pub type Streams<R> = ClientStreams<BufReader<Sent<R>>, Given<R>>;
 /// If no argument decides, the client is at standard input and output. `--stdio` asks for just that, and is ignored.
 /// `--clientProcessId=PID` is ignored too: the stream of a client that is gone ends. The value of an option may also be
 /// the next argument. An option that LSP does not have is named on standard error and ignored. Editors give the same
-/// arguments to many servers, and a server that ends at an unknown one can't be used with them at all.
+/// arguments to many servers, and a server that ends at an unknown one can't be used with them at all. So `--help` and
+/// `--version` are the program's own: see `lsp_server::about`.
 ///
 /// `serve` runs the session of one client on the streams that it receives: with a transport of them by
 /// `StreamTransport::serve`, or in threads that own the reader and the writer.
@@ -180,7 +184,7 @@ pub type Streams<R> = ClientStreams<BufReader<Sent<R>>, Given<R>>;
 ///     let mut policy = EndOnBadContent;
 ///     let mut transport = client.transport(alloc, &mut policy);
 ///     let mut application = ServerApplication::new(alloc, Checker::new(alloc));
-///     serve(&mut transport, &mut application)
+///     serve(&mut transport, &mut application).map_err(Explained)
 /// })?;
 /// ```
 ///
@@ -188,12 +192,12 @@ pub type Streams<R> = ClientStreams<BufReader<Sent<R>>, Given<R>>;
 /// output the error is `OutOfMemory`: there was no memory for a buffer. If the client listens, connecting to it may
 /// also fail. `--node-ipc`, or a port or a name that is missing, gives `InvalidInput`. With an address the call returns
 /// only on an error: the text is no address with a port, or the program may not listen there, for example because the
-/// port is in use.
+/// port is in use. The error names what was tried, such as `127.0.0.1:9257: address in use`.
 ///
 /// If something goes wrong with one client of an address, one line goes to standard error and the next client is
 /// served. This applies to an error of `serve`, to a client that left without `shutdown`, and to a client that the
 /// system refused, for example because the program has no descriptors left. After such a refusal the program waits for
-/// a second.
+/// a second. The line is what the error prints, so let `serve` return a fault as `Explained`.
 ///
 /// A client that waits for its turn gets no reply until another one is gone. A client that never sends anything is given
 /// up after `first_byte_timeout`, and one whose machine is gone is found as `keep_alive` says. One that reads nothing, or
@@ -296,11 +300,13 @@ where
     let Ok(port) = port.parse::<u16>() else {
         return Err(io::Error::new(ErrorKind::InvalidInput, NO_PORT));
     };
-    socket_ends(
-        rt,
-        TcpStream::connect(rt, (Ipv4Addr::LOCALHOST, port))?,
-        None,
-    )
+    match TcpStream::connect(rt, (Ipv4Addr::LOCALHOST, port)) {
+        Ok(stream) => socket_ends(rt, stream, None),
+        Err(error) => {
+            let address = format!(in rt.alloc(); "127.0.0.1:{port}")?;
+            Err(named(rt, address.as_str(), error))
+        }
+    }
 }
 
 /// Makes the ends of the client that listens at a socket file.
@@ -310,9 +316,34 @@ where
     ensures { IfOk result (λ ends.
         (reader_medium (reader_inner ends.0) ≡ by_file) × (writer_medium ends.1 ≡ by_file)) }
 {
-    let (reader, writer) = halves(PipeStream::connect(rt, name)?, None)?;
+    let stream = match PipeStream::connect(rt, name) {
+        Ok(stream) => stream,
+        Err(error) => return Err(named(rt, name, error)),
+    };
+    let (reader, writer) = halves(stream, None)?;
     let reader = BufReader::with_capacity(rt.alloc(), READ_AHEAD, ClientReader::Pipe(reader))?;
     Ok((reader, ClientWriter::Pipe(writer)))
+}
+
+/// Adds to an error the name of what was tried. Without memory for the text, the error stays as it is.
+fn named<R: AllocGlobal>(rt: &R, name: &str, error: io::Error) -> io::Error
+    ensures { error_kind result ≡ error_kind error }
+{
+    let name = last_bytes(name);
+    let text = match error.kind() {
+        ErrorKind::InvalidInput => format!(in rt.alloc(); "{name}: not an address; see --help"),
+        kind => format!(in rt.alloc(); "{name}: {kind}"),
+    };
+    match text {
+        Ok(text) => io::Error::new(error.kind(), text.as_str()),
+        Err(_) => error,
+    }
+}
+
+/// Returns the last bytes of a name, if it is too long for the text of an error.
+fn last_bytes(name: &str) -> &str {
+    let from = name.len().saturating_sub(SHOWN_BYTES);
+    name.get(from..).unwrap_or(name)
 }
 
 /// Serves the clients that connect to an address. It returns only if the program may not listen there, or if there is
@@ -344,7 +375,10 @@ where
     requires { F.IsAlwaysCallable serve }
     ensures { IsErr result }
 {
-    let listener = TcpListener::bind(rt, address)?;
+    let listener = match TcpListener::bind(rt, address) {
+        Ok(listener) => listener,
+        Err(error) => return Err(named(rt, address, error)),
+    };
     if options.at_once > 1 {
         return serve_at_once(rt, &listener, options, serve);
     }

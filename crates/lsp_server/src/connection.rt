@@ -129,10 +129,11 @@ impl Connection {
     ///
     /// <!-- from crates/example_connection/src/main.rt -->
     /// ```rust
-    /// let (id, params) = connection.initialize_start(rt)?;
+    /// let (id, params) = connection.initialize_start(rt).map_err(Explained)?;
     /// let can_be_asked = can_be_asked(&params);
     /// drop(params);
-    /// connection.initialize_finish(rt, id, about(rt.alloc())?)?;
+    /// let finished = connection.initialize_finish(rt, id, about(rt.alloc())?);
+    /// finished.map_err(Explained)?;
     /// ```
     ///
     /// An earlier request is answered with code -32002, and an earlier notification is dropped. It is an error if
@@ -269,7 +270,7 @@ impl Connection {
     ///     }
     ///     match message {
     ///         Message::Request(request) => {
-    ///             if connection.handle_shutdown(rt, &request)? {
+    ///             if connection.handle_shutdown(rt, &request).map_err(Explained)? {
     ///                 return Ok(());
     ///             }
     ///             send(rt, connection, Message::from(paths.answer(request)?))?;

@@ -6,12 +6,14 @@
 //! run a `HandlerApplication`. Take a `Connection` for a loop of your own. `docs/WRITING_A_SERVER.md` shows all three.
 #![tactic(auto)]
 
+pub mod about;
 pub mod calls;
 mod channel_account;
 mod client_places;
 pub mod clients;
 mod connection;
 pub mod dispatch;
+mod explained;
 pub mod frames;
 mod io_fault;
 mod io_threads;
@@ -40,6 +42,7 @@ mod writing;
 mod written;
 
 pub use connection::Connection;
+pub use explained::Explained;
 pub use io_fault::IoFault;
 pub use io_threads::IoThreads;
 pub use lsp_acts::{Act, Server, ServerApplication};

@@ -17,11 +17,11 @@ impl Connection {
     ///
     /// <!-- from crates/example_connection/src/main.rt -->
     /// ```rust
-    /// let (connection, threads) = Connection::stdio(&rt)?;
+    /// let (connection, threads) = Connection::stdio(&rt).map_err(Explained)?;
     /// let served = serve(&rt, connection, Some(&threads));
     /// let threads = threads.flush(&rt);
     /// served?;
-    /// threads.join(&rt)?;
+    /// threads.join(&rt).map_err(Explained)?;
     /// ```
     ///
     /// The fault is `Start` if a thread was not started, and `Memory` if an allocation failed.

@@ -19,9 +19,9 @@ pub(crate) enum Channel<'a> {
 
 const NODE_IPC: &str = "`--node-ipc` is for programs under node";
 
-const NO_NAME: &str = "no name behind `--pipe`";
+const NO_NAME: &str = "no name after `--pipe`";
 
-pub(crate) const NO_PORT: &str = "no port number behind `--socket` or `--port`";
+pub(crate) const NO_PORT: &str = "no port number after `--socket` or `--port`";
 
 /// Returns the channel that the arguments ask for. The first argument that asks for one decides.
 pub(crate) fn channel_in(words: &[String]) -> Channel<'_>

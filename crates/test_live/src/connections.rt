@@ -3,7 +3,7 @@ use crate::attempt::{Attempt, Stop};
 use crate::signals::{Signal, Signals};
 use lsp_message::{Message, Notification, Request, RequestId};
 use lsp_server::running::spawn;
-use lsp_server::{Connection, ProtocolError};
+use lsp_server::{Connection, Explained, ProtocolError};
 use serde_json::{Map, Value};
 use std::alloc::{AllocError, Global};
 use std::fmt::Display;
@@ -371,7 +371,7 @@ where
             drop(threads.flush(rt));
             String::from_str(alloc, "a connection")
         }
-        Err(fault) => format!(in alloc; "{fault:?}, {fault}"),
+        Err(fault) => format!(in alloc; "{fault:?}, {fault}, {}", Explained(fault)),
     };
     Ok(Attempt::came(said?))
 }

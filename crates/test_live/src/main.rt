@@ -10,6 +10,7 @@
 //!   (`servers.rt`, `jobs.rt`).
 //! - `pool`: a pool of jobs, used directly (`pools.rt`). `relay`, `waker`: a relay alone.
 //! - `call`, `turns`, `called_off`, `nobody`: the calls of a connection (`connections.rt`).
+//! - `explained`: what a fault prints for a person (`explained.rt`).
 //! - `exit`, the last row: a server that waits for an `exit` which never arrives. It takes 30 seconds, and began when
 //!   the program did.
 //!
@@ -23,6 +24,7 @@ mod calls;
 mod connections;
 mod devices;
 mod escapes;
+mod explained;
 mod jobs;
 mod listening;
 mod owners;
@@ -177,6 +179,7 @@ where
         Row::Whole("called_off", _) => connections::called_off(rt, alloc),
         Row::Whole("turns", _) => connections::turns(rt, alloc),
         Row::Whole("nobody", _) => connections::nobody(rt, alloc),
+        Row::Whole("explained", rest) => explained::explained(alloc, rest),
         Row::Whole(..) => Err(Stop::Table),
     }
 }
