@@ -7,10 +7,13 @@
 //! Hovers wait until the answer arrives, so they can be cancelled.
 #![tactic(auto)]
 
+ghost use Rattle.std.specs.Prelude.{[], IfOk};
 ghost use Rattle.lsp_session.specs.ActBytes.{SkipsNothing};
+ghost use Rattle.lsp_session.specs.EndsWell.{all_given, all_taken};
 ghost use Rattle.lsp_session.specs.StreamTransports.{IsUnused, Serves};
 ghost use Rattle.lsp_session.specs.Transcripts.{notes_of};
 ghost use Rattle.lsp_acts.specs.ServerApplication.{ServerSession};
+ghost use Rattle.lsp_acts.specs.ServerEndsWell.{ServerEndsWell};
 
 use anyhow::{Result as Answer, bail};
 use lsp_acts::cancelled_id;
@@ -21,6 +24,7 @@ use lsp_server::about::{About, CHANNEL_ARGUMENTS};
 use lsp_server::calls::{CallRef, NotificationRef};
 use lsp_server::clients::{ClientOptions, serve_clients};
 use lsp_server::laws::policies::nothing_is_skipped;
+use lsp_server::laws::server_session_ends_well;
 use lsp_server::policies::{BadContentPolicy, EndOnBadContent};
 use lsp_server::{
     Act, Explained, Notification, Request, ResponseError, Server, ServerApplication, SessionEnd,
@@ -332,17 +336,26 @@ fn heading_above(text: &Text, line: u32) -> Option<u32> {
 }
 
 /// Serves the client of a transport. This holds for every reader and writer, also for standard input and output or a
-/// socket: the bytes that were taken are frames of messages, and those that were given are frames of what a session of
-/// a `Checker` sends for them, each before the next byte is taken. No content part is skipped.
+/// socket.
+///
+/// The first clause is the one to read: if the result is `Ok`, the bytes that were taken are frames of the client's
+/// messages, and those that were given are frames of the server's messages. Under no id are there more replies than
+/// requests. After a `shutdown`, each request whose id was used once has exactly one reply.
+///
+/// The others say of each session that the bytes given are frames of what a session of a `Checker` sends, each before
+/// the next byte is taken, and that no content part is skipped.
 fn serve<R: BufRead, W: Write>(
     transport: &mut StreamTransport<'_, R, W, EndOnBadContent>,
     checker: &mut ServerApplication<Checker, Asked>,
 ) -> Result<SessionEnd, SessionFault>
     requires { IsUnused transport.old }
+    ensures ends_well { IfOk result (λ end. ServerEndsWell transport.old.limits (all_taken transport.new.transcript.now)
+        [] (all_given transport.new.transcript.now) end) }
     ensures session { Serves ⟦<EndOnBadContent as BadContentPolicy>⟧.passes
         (ServerSession ⟦<Checker as Server>⟧ checker.old.server checker.new.server) transport.old result transport.new }
     ensures complete { SkipsNothing (notes_of transport.new.transcript.now) }
 {
+    server_session_ends_well::<R, W, EndOnBadContent, Checker>();
     nothing_is_skipped::<R, W, EndOnBadContent, ServerApplication<Checker, Asked>>();
     transport.serve(checker)
 }

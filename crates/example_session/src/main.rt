@@ -2,9 +2,10 @@
 #![tactic(auto)]
 
 ghost use Rattle.serde_json.specs.View.{view};
-ghost use Rattle.std.specs.Prelude.{false, IfSome};
+ghost use Rattle.std.specs.Prelude.{false, IfOk, IfSome};
 ghost use Rattle.lsp_server.specs.Frame.{no_limit};
 ghost use Rattle.lsp_server.specs.Answered.{AnswersRequests};
+ghost use Rattle.lsp_server.specs.EndsWell.{EndsWellBetween};
 ghost use Rattle.lsp_server.specs.HandlerSession.{of_handler};
 ghost use Rattle.lsp_server.specs.Session.{SessionOut};
 ghost use Rattle.lsp_server.specs.SessionBytes.{Gives};
@@ -12,6 +13,7 @@ ghost use Rattle.lsp_server.specs.SessionLaws.{Both, KeepsOrder};
 
 use anyhow::{Result, bail};
 use lsp_server::about::About;
+use lsp_server::laws::endings::session_ends_well;
 use lsp_server::laws::sessions::session_answers_requests;
 use lsp_server::{
     Explained, Handler, Notification, Request, ResponseError, SessionEnd, SessionFault, session,
@@ -61,10 +63,15 @@ impl Handler for Documents {
     }
 }
 
-/// Serves one client, for every reader that says which bytes it has, such as a slice, and every writer. The bytes that
-/// are taken are frames of messages. The bytes that are written are frames of what a session of `Documents` sends for
-/// them. Each request gets one reply, and the messages keep the order of the lifecycle (LSP 3.17, "Server lifecycle").
-/// If a write or an allocation fails, the bytes are a prefix of these.
+/// Serves one client, for every reader that says which bytes it has, such as a slice, and every writer.
+///
+/// The first clause is the one to read: if the result is `Ok`, the bytes that were taken are frames of the client's
+/// messages. The bytes that were written are frames of exactly one reply to each request, under its id, in order, as
+/// `Documents` answers it, and of nothing else. The null of `shutdown` is the last.
+///
+/// The second clause says it of each session, also of one that ends with a fault. The messages keep the order of the
+/// lifecycle (LSP 3.17, "Server lifecycle"). If a write or an allocation fails, the bytes are a prefix of these. A
+/// session that reads one message and ends with "out of memory" meets both clauses.
 ///
 /// The contract says nothing about standard input. `serve` of `example_diagnostics` has one for every reader.
 fn serve<R: BufRead, W: Write>(
@@ -74,13 +81,18 @@ fn serve<R: BufRead, W: Write>(
     capabilities: Value,
     documents: &mut Documents,
 ) -> Result<SessionEnd, SessionFault>
-    ensures { IfSome (R.remaining reader.old) (λ text.
+    ensures ends_well { IfSome (R.remaining reader.old) (λ text. IfOk result (λ end.
+        EndsWellBetween ⟦<Documents as Handler>⟧.answer_post ⟦<Documents as Handler>⟧.note_post no_limit
+        (view capabilities) documents.old text (R.remaining reader.new) (W.contents writer.old) (W.contents writer.new)
+        end documents.new)) }
+    ensures session { IfSome (R.remaining reader.old) (λ text.
         Gives no_limit
         (Both (SessionOut (of_handler ⟦<Documents as Handler>⟧.answer_post ⟦<Documents as Handler>⟧.note_post
         (view capabilities)) documents.old documents.new)
         (Both AnswersRequests (KeepsOrder false false)))
         text (R.remaining reader.new) (W.contents writer.old) (W.contents writer.new) result) }
 {
+    session_ends_well::<Documents>();
     session_answers_requests::<Documents>();
     session(alloc, reader, writer, capabilities, documents)
 }

@@ -1,19 +1,43 @@
 //! Laws about the session of a server, in terms of what a user sees.
 ghost use Rattle.std.specs.FinMap as map;
-ghost use Rattle.std.specs.Prelude.{◌≡◌, List, Option};
+ghost use Rattle.std.specs.Prelude.{◌≡◌, [], IfOk, List, Option, Result};
 ghost use Rattle.lsp_message.specs.Id.{Id};
 ghost use Rattle.lsp_message.specs.Message.{Message};
 ghost use Rattle.lsp_queue.specs.Queue.{Pending};
+ghost use Rattle.lsp_session.specs.ActBytes.{SkipsNothing};
+ghost use Rattle.lsp_session.specs.EndsWell.{all_given, all_taken};
 ghost use Rattle.lsp_session.specs.Session.{Exchange, SessionAnswer, SessionOut, Stop, messages_of};
 ghost use Rattle.lsp_session.specs.SessionLaws.{Implies};
+ghost use Rattle.lsp_session.specs.StreamTransports.{Serves};
+ghost use Rattle.lsp_session.specs.Transcripts.{notes_of};
+ghost use Rattle.lsp_session.specs.declared.loops.handler.SessionEnd.{SessionEnd};
+ghost use Rattle.lsp_session.specs.declared.loops.stream_session.SessionFault.{SessionFault};
+ghost use Rattle.lsp_session.specs.declared.loops.stream_transport.StreamTransport.{StreamTransport};
 ghost use Rattle.lsp_acts.specs.Acts.{Queues, empty_queues};
 ghost use Rattle.lsp_acts.specs.Law.{is_request_under, how_many, AnswersLast, AnswersLastInFull, IsGone, IsOwedWhatIsHeld, IsWhole, KeepsLaws, LawfulSession, NeverMore, OnceOrEnded, WasToSend};
 ghost use Rattle.lsp_acts.specs.SentByActs.{ActsAt};
 ghost use Rattle.lsp_acts.specs.ServerApplication.{with_queues, ServerSession, WorksSending, held_by};
+ghost use Rattle.lsp_acts.specs.ServerEndsWell.{ServerEndsWell};
 ghost use Rattle.lsp_acts.specs.View.{seen};
 ghost use Rattle.lsp_acts.specs.declared.server_application.ServerApplication.{ServerApplication as QueuedOf};
 
 use crate::server::Server;
+use lsp_session::BadContentPolicy;
+use std::io::{BufRead, Write};
+
+/// A session of a server that ended well, over a transport that skipped nothing (`StreamTransport::serve`), for every
+/// reader and writer. This is the law to read first. The bytes that were taken are frames of the client's messages, and
+/// perhaps the end of the input. The bytes that were given are frames of the server's messages, and of nothing else.
+/// Under no id are there more replies than the client sent requests. If the client asked for `shutdown`, its null is
+/// the last message, and each request whose id was used once has exactly one reply (JSON-RPC 2.0, section 5; LSP 3.17,
+/// "Server lifecycle").
+pub fn server_session_ends_well<R: BufRead, W: Write, L: BadContentPolicy, S: Server>()
+    ensures { (first last : S) (before after : StreamTransport R W L) (result : Result SessionEnd SessionFault)
+        → SkipsNothing (notes_of after.transcript.now)
+        → Serves L.passes (ServerSession S.Server first last) before result after
+        → IfOk result (λ end. ServerEndsWell before.limits (all_taken after.transcript.now) []
+        (all_given after.transcript.now) end) }
+{}
 
 /// The contract of a server's session implies these laws. They apply to the exchanges of each session of a
 /// `ServerApplication`, and so to the session in each form.

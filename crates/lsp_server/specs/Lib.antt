@@ -50,8 +50,10 @@ pub use Rattle.lsp_relay.specs.Relay
 pub use Rattle.lsp_relay.specs.StartFault
 pub use Rattle.lsp_acts.specs.Law
 pub use Rattle.lsp_acts.specs.ServerApplication
+pub use Rattle.lsp_acts.specs.ServerEndsWell
 pub use Rattle.lsp_session.specs.Answered
 pub use Rattle.lsp_session.specs.Boxes
+pub use Rattle.lsp_session.specs.EndsWell
 pub use Rattle.lsp_session.specs.Event
 pub use Rattle.lsp_session.specs.SkipAndCount
 pub use Rattle.lsp_session.specs.Finish

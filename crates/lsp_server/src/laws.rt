@@ -3,7 +3,8 @@
 
 pub use lsp_acts::laws::{
     call_sends_its_acts, id_used_once_is_answered_once, lost_client_is_owed_what_is_held,
-    server_application_runs_its_server, server_keeps_laws, shutdown_leaves_nobody_waiting,
+    server_application_runs_its_server, server_keeps_laws, server_session_ends_well,
+    shutdown_leaves_nobody_waiting,
 };
 pub use lsp_dispatch::laws::replies_once;
 pub use lsp_message::laws::{
@@ -12,5 +13,7 @@ pub use lsp_message::laws::{
 };
 pub use lsp_peers::laws as peers;
 pub use lsp_queue::laws::pending_is_last_registered;
-pub use lsp_session::laws::{clients, dialogs, policies, sessions, streams, turns};
-pub use lsp_threads::laws::nothing_is_skipped_in_threads;
+pub use lsp_session::laws::{clients, dialogs, endings, policies, sessions, streams, turns};
+pub use lsp_threads::laws::{
+    handler_in_threads_ends_well, nothing_is_skipped_in_threads, session_in_threads_ends_well,
+};

@@ -31,6 +31,7 @@ pub mod ReadsOn
 pub mod Refused
 pub mod RefusedBytes
 pub mod RefusedDialogs
+pub mod RefusedEndings
 pub mod RefusedPassing
 pub mod RefusedReplies
 pub mod RefusedRuns
@@ -49,3 +50,8 @@ pub mod ToldEvents
 pub mod Unread
 pub mod Unwoken
 pub mod Waiting
+pub mod WellEnded
+pub mod WellNoted
+pub mod WellRead
+pub mod WellServed
+pub mod WellSettled

@@ -594,7 +594,7 @@ all_answered xs stop fault lost (inr last) = absurd (still_there fault lost last
 
 -- ---- before `initialized`
 
-each_replied : (xs : List Exchange) → AllReplied xs → RepliesToEach (requests_of (messages_of xs)) (sends_of xs)
+pub each_replied : (xs : List Exchange) → AllReplied xs → RepliesToEach (requests_of (messages_of xs)) (sends_of xs)
 each_replied [] all = tt
 each_replied (x ∷ xs) all =
     let first = messages_of (x ∷ []) in

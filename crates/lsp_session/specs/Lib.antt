@@ -8,6 +8,7 @@ pub mod ByteSession
 pub mod ByteSessions
 pub mod ClientReads
 pub mod Dialog
+pub mod EndsWell
 pub mod Event
 pub mod SkipAndCount
 pub mod Finish

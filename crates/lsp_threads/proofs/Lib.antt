@@ -2,6 +2,7 @@ pub mod ContentReads
 pub mod ContentStream
 pub mod ContentWaits
 pub mod ContentsSend
+pub mod EndedWell
 pub mod Failing
 pub mod Flushing
 pub mod Frames

@@ -1,10 +1,15 @@
 -- What a session read and wrote that has a thread for reading and one for writing, and in which order (LSP 3.17, "Base
 -- Protocol" and "Server lifecycle").
-use Rattle.std.specs.Prelude.{Bool, false, ℕ, List, [], IfSome, Option, Some, Result}
+use Rattle.serde_json.specs.Data.{Data}
+use Rattle.std.specs.List.{concat}
+use Rattle.std.specs.Prelude.{Bool, false, ℕ, List, [], IfOk, IfSome, Option, Some, Result}
+use Rattle.lsp_message.specs.Id.{Id}
+use Rattle.lsp_message.specs.Message.{ErrorObject}
 use Rattle.lsp_message.specs.Told.{Parts}
 use Rattle.lsp_message.specs.declared.frame.ReadFault.{ReadFault}
 use Rattle.lsp_message.specs.declared.frame.byte_trace.ByteTrace.{ByteTrace}
 use Rattle.lsp_message.specs.declared.frame.limits.Limits.{Limits}
+use Rattle.lsp_session.specs.EndsWell.{EndsWell}
 use Rattle.lsp_session.specs.Session.{SessionPart}
 use Rattle.lsp_session.specs.SessionLaws.{Both}
 use Rattle.lsp_session.specs.declared.loops.handler.SessionEnd.{SessionEnd}
@@ -48,3 +53,11 @@ abbrev pub HandlesInThreads : Limits → SessionPart → (known before after : O
 HandlesInThreads limits P known before after answer = (taken : ByteTrace) × (given : ByteTrace) × (writes : List Begun)
     × InThreads (λ Q text old new. ThreadsGive limits Q text old new answer)
     (GivesInOrder false SkipsNone limits known tt) P known before after taken given writes answer
+
+-- A session of a handler that ended well, by the bytes that were taken and given. The thread that reads may have taken
+-- more than the session used, and that is left.
+abbrev pub EndsWellInThreads : {H : Type 0} → (H → Id → List ℕ → Data → Result Data ErrorObject → H → Type 0)
+    → (H → List ℕ → Data → H → Type 0) → Limits → Data → H → ByteTrace → ByteTrace → Result SessionEnd SessionFault → H
+    → Type 0
+EndsWellInThreads answers notes limits capabilities old taken given answer new = IfOk answer (λ end. (left : List ℕ)
+    × EndsWell answers notes limits capabilities old (concat taken.parts) left (concat given.parts) end new)

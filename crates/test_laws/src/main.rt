@@ -5,6 +5,7 @@
 mod acts;
 mod dispatch;
 mod documents;
+mod endings;
 mod jobs;
 mod links;
 mod messages;

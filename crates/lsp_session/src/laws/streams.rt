@@ -51,7 +51,7 @@ pub fn finish_over_reader<R: BufRead, O: Outbox>(
 ///
 /// Everything that is to be sent for a message is written before the next message is read: the result of `initialize`
 /// before `initialized`, and the reply to `shutdown` before `exit`. So a client may wait for it before it sends more.
-/// That the writer is also flushed before the next message is read is tested, and not part of the contract.
+/// `transport_tells_its_bytes` says that each message is flushed too.
 pub fn transport_gives_in_order<R: BufRead, W: Write, L: BadContentPolicy, S: Service>()
     ensures { (old new : S) (before after : TransportOf R W L) (reason : Reason) (answer : SessionAnswer)
         → IsUnused before
@@ -72,8 +72,8 @@ pub fn transport_gives_in_order<R: BufRead, W: Write, L: BadContentPolicy, S: Se
 ///
 /// - The bytes that were taken for a message are a frame of it, whatever follows them, and no byte more.
 /// - At the end of the messages, the bytes taken are those of the end of the input, or of the fault.
-/// - The bytes that were given for a message are a frame of it. For a message that was refused they are a prefix of
-///   one, or none.
+/// - The bytes that were given for a message are a frame of it, and the writer was flushed then. For a message that was
+///   refused they are a prefix of one, or none.
 pub fn transport_tells_its_bytes<R: BufRead, W: Write, L: BadContentPolicy, S: Service>()
     ensures { (old new : S) (before after : TransportOf R W L) (reason : Reason) (answer : SessionAnswer)
         → IsUnused before

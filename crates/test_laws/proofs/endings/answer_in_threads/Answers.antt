@@ -1,0 +1,13 @@
+use Rattle.lsp_message.specs.Frame.{no_limit}
+use Rattle.serde_json.specs.View.{view}
+use Rattle.std.proofs.Common.{Ok, Err}
+use Rattle.std.specs.Prelude.{IfOk, Result}
+use Rattle.test_laws.proofs.endings.answer_in_threads.Goals as goal
+
+if_ok : {A E : Type 0} (F G : A → Type 0) (result : Result A E) → ((a : A) → F a → G a) → IfOk result F → IfOk result G
+if_ok F G (Ok a) so is = so a is
+if_ok F G (Err e) so is = tt
+
+pub returns : goal.returns
+returns g c = if_ok _ _ c.run_threads.result (λ done handles. c.handler_in_threads_ends_well.ensures no_limit _
+    c.args.handler.now c.run_threads.new.handler _ _ _ done.answer handles) c.run_threads.ensures.session
