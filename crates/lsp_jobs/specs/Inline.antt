@@ -2,7 +2,7 @@
 use Rattle.serde_json.specs.Data.{Data}
 use Rattle.serde_json.specs.View.{view}
 use Rattle.std.specs.List.{All, FoldsTo}
-use Rattle.std.specs.Prelude.{◌≡◌, ◌⊎◌, ℕ, true, false, List, [], ◌∷◌, ◌++◌, Err, string_bytes}
+use Rattle.std.specs.Prelude.{◌≡◌, ◌⊎◌, ℕ, true, false, List, [], ◌∷◌, ◌++◌, Err, length, string_bytes}
 use Rattle.lsp_message.specs.Id.{Id}
 use Rattle.lsp_message.specs.declared.msg.Notification.{Notification}
 use Rattle.lsp_acts.specs.Acts.{Act, tells, replies, stays}
@@ -19,6 +19,10 @@ use Rattle.lsp_jobs.specs.declared.names.JobName.TheVariants.{Request, Keyed}
 -- a notification that is sent
 abbrev pub told : {P : Type 0} → Notification → Act P
 told n = tells (string_bytes n.method) (view n.params)
+
+-- In the last of these rounds no command is named.
+abbrev pub EndsEmpty : {J : Type 0} → List (List (JobCommand J)) → Type 0
+EndsEmpty {J} rounds = (earlier : List (List (JobCommand J))) × (rounds ≡ earlier ++ [] ∷ [])
 
 -- what a server states of its jobs
 module _ {S J F P : Type 0} (may : StatedJobs S J F P) where
@@ -41,6 +45,12 @@ module _ {S J F P : Type 0} (may : StatedJobs S J F P) where
   abbrev pub RunsThen : JobName → J → S × List (Act P) → S × List (Act P) → Type 0
   RunsThen name job old new = (acts : List (Act P)) × Runs name job old.0 acts new.0 × (new.1 ≡ old.1 ++ acts)
 
+  -- A job sent these notifications and came to this. After the acts that were done before come these notifications, all
+  -- of them and in order, and then the acts at its end.
+  abbrev pub EndsAfter : JobName → Came F → List (Act P) → S × List (Act P) → S × List (Act P) → Type 0
+  EndsAfter name came sent old new = (last : List (Act P)) × EndsWithReply may name came old.0 last new.0
+      × (new.1 ≡ old.1 ++ (sent ++ last))
+
   -- A command is carried out. A job runs at once, whatever time it was to wait, so there is none to stop.
   abbrev pub Carries : S × List (Act P) → JobCommand J → S × List (Act P) → Type 0
   Carries old (Start key job) new = RunsThen (Keyed key) job old new
@@ -53,9 +63,12 @@ module _ {S J F P : Type 0} (may : StatedJobs S J F P) where
     pub names : may.take_commands_post old.0 commands mid
     pub carried : FoldsTo Carries (mid, old.1) commands new
 
-  -- The server is asked for commands again and again, since it may name further ones when jobs have ended.
-  abbrev pub Settles : S × List (Act P) → S × List (Act P) → Type 0
-  Settles old new = (rounds : List (List (JobCommand J))) × FoldsTo Round old rounds new
+  -- The server is asked for commands again and again, since it may name further ones when jobs have ended. This ends
+  -- when it names none, or when it was asked a hundred times.
+  pub record Settles (old new : S × List (Act P)) : Type 0 where
+    pub rounds : List (List (JobCommand J))
+    pub carried : FoldsTo Round old rounds new
+    pub until : EndsEmpty rounds ⊎ (length rounds ≡ 100)
 
   -- the server did these acts, and then its commands are carried out
   abbrev pub DoesInline : (List (Act P) → S → Type 0) → List (Act P) → S → Type 0

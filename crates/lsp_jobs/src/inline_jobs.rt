@@ -1,11 +1,13 @@
 // A server whose jobs run on the session's own thread.
 ghost use Rattle.serde_json.specs.View.{view};
 ghost use Rattle.std.specs.List.{All, FoldsTo};
-ghost use Rattle.std.specs.Prelude.{◌≡◌, ◌++◌, [], ◌∷◌, List, IfOk, Some, map, option_map, string_bytes};
+ghost use Rattle.std.specs.Prelude.{◌≡◌, ◌++◌, [], ◌∷◌, List, IfOk, Some, false, map, option_map, string_bytes};
 ghost use Rattle.lsp_message.specs.View.{outcome_view};
 ghost use Rattle.lsp_acts.specs.View.{act_view};
-ghost use Rattle.lsp_jobs.specs.Inline.{told, AnswersLong, Carries, Round, RunsThen, Settles};
+ghost use Rattle.lsp_jobs.specs.Inline.{told, AnswersLong, Carries, EndsAfter, Round, RunsThen, Settles};
 ghost use Rattle.lsp_jobs.specs.Outcomes.{MayAsk, MayReport};
+ghost use Rattle.lsp_jobs.specs.PoolView.{came_view};
+ghost use Rattle.lsp_jobs.specs.declared.job_server.JobCommand.{JobCommand as Command};
 
 use crate::job::{DoneJob, Interrupted, Job, JobContext, run_as_text};
 use crate::job_server::{AnsweredBy, JobCommand, JobServer, KeyedJobs, StatesJobs};
@@ -74,6 +76,21 @@ impl<S: JobServer<J> + Drop, J: Job> InlineJobs<S, J> {
             (self.new.server, map (act_view S.PendingData.eq) acts.new.items)) }
     {
         let (ran, sent) = perform::<Brand, J>(self.alloc, job)?;
+        self.add_run(name, ran, sent, acts)
+    }
+
+    /// Adds to these acts what a job sent, in order, then the acts at its end, and its reply.
+    fn add_run(
+        &mut self,
+        name: JobName,
+        ran: Result<DoneJob<J::Found>, Interrupted>,
+        sent: Vec<Notification>,
+        acts: &mut Vec<Act<S::PendingData>>,
+    ) -> Result<(), AllocError>
+        ensures { IfOk result (λ _. EndsAfter ⟦<S as StatesJobs<J>>⟧.jobs name (came_view «ran») (map told sent.items)
+            (self.old.server, map (act_view S.PendingData.eq) acts.old.items)
+            (self.new.server, map (act_view S.PendingData.eq) acts.new.items)) }
+    {
         push_notifications(acts, sent)?;
         let last = end_job(&mut self.server, name, ran, self.alloc)?;
         append_acts(acts, last)
@@ -117,9 +134,10 @@ impl<S: JobServer<J> + Drop, J: Job> InlineJobs<S, J> {
 
     /// Asks the server for commands and carries them out. Returns whether there were any.
     fn run_round(&mut self, acts: &mut Vec<Act<S::PendingData>>) -> Result<bool, AllocError>
-        ensures { IfOk result (λ _. (commands : List _) × Round ⟦<S as StatesJobs<J>>⟧.jobs
+        ensures { IfOk result (λ is_any. (commands : List (Command J)) × Round ⟦<S as StatesJobs<J>>⟧.jobs
             (self.old.server, map (act_view S.PendingData.eq) acts.old.items) commands
-            (self.new.server, map (act_view S.PendingData.eq) acts.new.items)) }
+            (self.new.server, map (act_view S.PendingData.eq) acts.new.items)
+            × (is_any ≡ false → commands ≡ [])) }
     {
         let commands = S::KeyedJobs::take_commands(&mut self.server, self.alloc)?;
         let is_any = !commands.is_empty();
@@ -127,7 +145,7 @@ impl<S: JobServer<J> + Drop, J: Job> InlineJobs<S, J> {
         Ok(is_any)
     }
 
-    /// Carries out the commands of the server after these acts, until it names none.
+    /// Carries out the commands of the server after these acts, until it names none or was asked a hundred times.
     fn settle(
         &mut self,
         acts: Vec<Act<S::PendingData>>,
@@ -137,7 +155,7 @@ impl<S: JobServer<J> + Drop, J: Job> InlineJobs<S, J> {
             (self.new.server, map (act_view S.PendingData.eq) all.items)) }
     {
         let mut acts = acts;
-        for _ in 0..MOST_ROUNDS {
+        for _round in 0..MOST_ROUNDS {
             if !self.run_round(&mut acts)? {
                 return Ok(acts);
             }
