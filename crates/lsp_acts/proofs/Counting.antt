@@ -54,11 +54,12 @@ abbrev pub due : {P : Type 0} → Id → Queues P → ℕ
 due id d = how_many (is_reply_under id) d.sent + held_under id d.held
 
 module _ (id : Id) where
-  held_insert : (held : Pending (Unit {0})) (i : Id) → held_under id (map.insert held i tt)
+  pub held_insert : (held : Pending (Unit {0})) (i : Id) → held_under id (map.insert held i tt)
       ≡ cond (eq_by_cmp id_cmp id i) 1 (held_under id held)
   held_insert held i = let got = get-insert id_total held i tt id in grind (arith, got)
 
-  held_remove : (held : Pending (Unit {0})) (i : Id) → held_under id (map.remove held i) ≡ cond (eq_by_cmp id_cmp id i)
+  pub held_remove : (held : Pending (Unit {0})) (i : Id) → held_under id (map.remove held i) ≡ cond (eq_by_cmp id_cmp
+      id i)
       0 (held_under id held)
   held_remove held i = let got = get-remove id_total held i id in grind (arith, got)
 

@@ -8,6 +8,8 @@ use Rattle.lsp_message.specs.Methods.{is_initialize}
 use Rattle.lsp_queue.specs.Queue.{Pending}
 use Rattle.lsp_acts.proofs.Acting.{acts_at}
 use Rattle.lsp_acts.specs.Acts.{Act, asks, tells, Queues, cancelled_by, does, empty_queues, ends_all, released, stays}
+use Rattle.lsp_acts.specs.Acts.{replies}
+use Rattle.lsp_acts.specs.AtOnce.{AnswersEach, LeavesNone}
 use Rattle.lsp_acts.specs.Law.{one_if, acts_of, all_sent, kept_under, was_given, is_reply_under, is_request_under}
 use Rattle.lsp_acts.specs.Law.{how_many, held_under, AnswersCancelled, AnswersLast, NeverMore, OnceOrEnded}
 use Rattle.lsp_acts.specs.Law.{GetsShutdownReply}
@@ -21,7 +23,7 @@ use Rattle.lsp_session.proofs.Ran.{Ran, StepCase, row, at_initialize, at_initial
 use Rattle.lsp_session.proofs.Ran.{idle, ran, no_one}
 use Rattle.lsp_session.proofs.Refused.{served_first}
 use Rattle.lsp_session.specs.Session.{Exchange, messages_of, sends_of, SessionAnswer, Stop, decided, exhausted, Phase}
-use Rattle.lsp_session.specs.Session.{starting, offered}
+use Rattle.lsp_session.specs.Session.{starting, no_more, offered}
 use Rattle.lsp_session.specs.declared.loops.handler.SessionEnd.{SessionEnd}
 use Rattle.lsp_session.specs.declared.loops.handler.SessionEnd.TheVariants.{Closed}
 use Rattle.serde_json.specs.Data.{Data}
@@ -326,3 +328,26 @@ module _ {S P : Type 0} (may : Stated S P) (first last : S) (held : Pending (Uni
   pub forgets : (stop ≡ exhausted → ⊥) → (laws : KeepsLaws may first last held exchanges stop answer)
       → (last ≡ laws.after → ⊥) → ⊥
   forgets enough laws other = elim laws.kept [ inl ran ↦ enough ran | inr kept ↦ other kept ]
+
+-- ---- a server that answers each request at once
+
+-- it does nothing at a request, replies twice, or replies to another request
+module _ (P : Type 0) (id : Id) where
+  pub does_nothing : AnswersEach {P = P} [] id → ⊥
+  does_nothing each = each
+
+  pub answers_twice : (one other : Result Data ErrorObject)
+      → AnswersEach {P = P} (replies id one ∷ replies id other ∷ []) id → ⊥
+  answers_twice one other each = each.1
+
+  pub answers_another : (other : Id) (outcome : Result Data ErrorObject) → (other ≡ id → ⊥)
+      → AnswersEach {P = P} (replies other outcome ∷ []) id → ⊥
+  answers_another other outcome differs each = differs each.0
+
+-- a request comes, and nothing is sent
+pub leaves_one : (id : Id) (method : List ℕ) (params : Data) (answer : SessionAnswer)
+    → LeavesNone (asked id method params [] ∷ []) no_more answer → ⊥
+leaves_one id method params answer none = elim (none.once tt id (ap (λ (b : Bool). one_if b + 0) (same id))) [
+  | inl one ↦ absurd (omega (arith, one))
+  | inr ends ↦ absurd (cc (ends.1.1))
+]

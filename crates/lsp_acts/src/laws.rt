@@ -14,6 +14,7 @@ ghost use Rattle.lsp_session.specs.declared.loops.handler.SessionEnd.{SessionEnd
 ghost use Rattle.lsp_session.specs.declared.loops.stream_session.SessionFault.{SessionFault};
 ghost use Rattle.lsp_session.specs.declared.loops.stream_transport.StreamTransport.{StreamTransport};
 ghost use Rattle.lsp_acts.specs.Acts.{Queues, empty_queues};
+ghost use Rattle.lsp_acts.specs.AtOnce.{AnswersAllAtOnce, LeavesNone};
 ghost use Rattle.lsp_acts.specs.Law.{is_request_under, how_many, AnswersLast, AnswersLastInFull, IsGone, IsOwedWhatIsHeld, IsWhole, KeepsLaws, LawfulSession, NeverMore, OnceOrEnded, WasToSend};
 ghost use Rattle.lsp_acts.specs.SentByActs.{ActsAt};
 ghost use Rattle.lsp_acts.specs.ServerApplication.{with_queues, ServerSession, WorksSending, held_by};
@@ -115,4 +116,16 @@ pub fn id_used_once_is_answered_once()
         → NeverMore id exchanges → AnswersLast id all stop held answer
         → how_many (is_request_under id) (messages_of exchanges) ≡ 1
         → OnceOrEnded id exchanges stop held answer }
+{}
+
+/// A server that answers each request at once leaves none without a reply, as a `Handler` does. Its `request_post` says
+/// that it does: exactly one of the acts is a reply, and it is to this request (`AnswersEach`).
+///
+/// A request whose id was used once has exactly one reply, if the outbox refused no message and memory did not run out.
+/// So has the last request under each id, of all that was to be sent, if memory did not run out. The only request
+/// without a reply is one at which the session ended because the lifecycle does not allow it.
+pub fn server_that_answers_at_once_leaves_none<S: Server>()
+    ensures { (first last : S) (exchanges : List Exchange) (stop : Stop) (answer : SessionAnswer)
+        → AnswersAllAtOnce S.Server → ServerSession S.Server first last exchanges stop answer
+        → LeavesNone exchanges stop answer }
 {}

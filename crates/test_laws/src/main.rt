@@ -3,6 +3,7 @@
 #![tactic(auto)]
 
 mod acts;
+mod at_once;
 mod dispatch;
 mod documents;
 mod endings;
