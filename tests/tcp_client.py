@@ -10,7 +10,6 @@ import statistics
 import struct
 import sys
 import time
-from pathlib import Path
 
 sys.dont_write_bytecode = True
 

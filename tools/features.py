@@ -3,7 +3,6 @@
 A line `METHOD MEMBER` of its features.txt names a type of a method, and the member of `ServerCapabilities` that announces the method. If
 the tables of the types have a `bool` there, the method is announced by `true`. Otherwise it is announced by options of the type there.
 """
-import re
 
 from members import CRATES, ROOT, read
 
